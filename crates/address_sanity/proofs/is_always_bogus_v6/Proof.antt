@@ -1,0 +1,12 @@
+-- `is_always_bogus_v6` meets its contract: its tests are those of the rows.
+use Rattle.address_sanity.specs.Ranges.{alwaysV6}
+use Rattle.address_sanity.proofs.RowTests.{someV6}
+use Rattle.address_sanity.proofs.is_always_bogus_v6.Statement.{statement}
+use Rattle.address_sanity.proofs.is_always_bogus_v6.Tie as tie
+
+returns : tie.Need-returns
+unfolding alwaysV6
+returns c = someV6 (c .args .high) (c .args .low) (c .fits .low .fits) alwaysV6
+
+pub is-always-bogus-v6-spec : {M : Type 1} → statement M
+is-always-bogus-v6-spec = tie.close (tie.spec returns)

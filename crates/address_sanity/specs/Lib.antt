@@ -1,0 +1,4 @@
+pub mod Ranges
+pub mod Bogus
+pub mod BogusLaws
+pub mod Cases

@@ -1,0 +1,120 @@
+-- Entries as a writer is given them: tables of u32 beside a lent buffer (document 01, "Questions", the paragraph on tables). What the rows mean by
+-- value, and the questions asked of tables, 16 and 12. From 13 on the questions are those of the values.
+use Prim.Native.Nat.{ℕ, zero, suc, _+_, _-_, _*_, _/_, _%_}
+use mathlib.Core.Bool.{Bool, _&&_, _||_}
+use mathlib.Core.List.{List, [], _∷_, map}
+use lib.Dec.{eqb, leb, ltb}
+use lib.ListN.{length, getD, take, drop}
+use Rattle.wire.specs.Bytes.{every}
+use Rattle.handshake.specs.Entry.{addressOf}
+use Rattle.handshake.specs.Value.{FeatureValue, EntryValue}
+use Rattle.handshake_write.specs.declared.FeatureRow.{FeatureRow}
+use Rattle.handshake_write.specs.declared.EntryRow.{EntryRow}
+
+-- ---- rows
+
+-- what f gives at the n numbers from i on
+unfoldable pub rows : {A : Type 0} → (ℕ → A) → ℕ → ℕ → List A
+rows f i zero = []
+rows f i (suc n) = f i ∷ rows f (i + 1) n
+
+-- a feature's id, place, length
+abbrev pub featureRow : List ℕ → ℕ → FeatureRow
+featureRow t k = record { id = getD t (3 * k) 0; at = getD t (3 * k + 1) 0; len = getD t (3 * k + 2) 0 }
+
+-- an entry's agent place and length, three version numbers, name place and length, address length byte, address place, port, first feature row, row count
+abbrev pub entryRow : List ℕ → ℕ → EntryRow
+entryRow t k =
+    record {
+      agentat = getD t (12 * k) 0;
+      agentlen = getD t (12 * k + 1) 0;
+      major = getD t (12 * k + 2) 0;
+      minor = getD t (12 * k + 3) 0;
+      patch = getD t (12 * k + 4) 0;
+      nameat = getD t (12 * k + 5) 0;
+      namelen = getD t (12 * k + 6) 0;
+      addrlen = getD t (12 * k + 7) 0;
+      addrat = getD t (12 * k + 8) 0;
+      port = getD t (12 * k + 9) 0;
+      first = getD t (12 * k + 10) 0;
+      count = getD t (12 * k + 11) 0;
+    }
+
+-- the tables and the buffer of one call
+pub record Lent : Type 0 where
+  pub entries : List ℕ
+  pub features : List ℕ
+  pub buffer : List ℕ
+
+abbrev pub entryRows : Lent → List EntryRow
+entryRows l = rows (entryRow (l .entries)) 0 (length (l .entries) / 12)
+
+abbrev pub featureRows : Lent → List FeatureRow
+featureRows l = rows (featureRow (l .features)) 0 (length (l .features) / 3)
+
+-- the feature rows that an entry's row names
+abbrev pub ownRows : Lent → EntryRow → List FeatureRow
+ownRows l r = rows (featureRow (l .features)) (r .first) (r .count)
+
+-- ---- what the rows mean
+
+-- n bytes of the buffer from a place on
+abbrev pub bytesAt : List ℕ → ℕ → ℕ → List ℕ
+bytesAt buffer at n = take n (drop at buffer)
+
+unfoldable pub featureOf : List ℕ → FeatureRow → FeatureValue
+featureOf buffer f = record { id = f .id; body = bytesAt buffer (f .at) (f .len) }
+
+-- with L = 0 there is no address, and the port doesn't count
+unfoldable pub entryOf : Lent → EntryRow → EntryValue
+entryOf l r =
+    record {
+      agent = bytesAt (l .buffer) (r .agentat) (r .agentlen);
+      version = record { major = r .major; minor = r .minor; patch = r .patch };
+      name = bytesAt (l .buffer) (r .nameat) (r .namelen);
+      address = addressOf (r .addrlen) (bytesAt (l .buffer) (r .addrat) (r .addrlen - 4)) (r .port);
+      features = map (featureOf (l .buffer)) (ownRows l r);
+    }
+
+unfoldable pub entriesOf : Lent → List EntryValue
+entriesOf l = map (entryOf l) (entryRows l)
+
+-- ---- 16: has each table whole rows, with feature ids and versions being bytes, ports below 65,536 and address lengths 0, 8 or 20?
+
+unfoldable pub wholeRows : ℕ → List ℕ → Bool
+wholeRows n t = eqb (length t % n) 0
+
+unfoldable pub featureNumbers : FeatureRow → Bool
+featureNumbers f = ltb (f .id) 256
+
+unfoldable pub entryNumbers : EntryRow → Bool
+entryNumbers r =
+    ltb (r .major) 256
+    && (ltb (r .minor) 256
+    && (ltb (r .patch) 256
+    && (ltb (r .port) 65536
+    && (eqb (r .addrlen) 0 || (eqb (r .addrlen) 8 || eqb (r .addrlen) 20)))))
+
+-- over every row of both tables, written or not
+unfoldable pub tablesWhole : Lent → Bool
+tablesWhole l =
+    wholeRows 12 (l .entries)
+    && (wholeRows 3 (l .features)
+    && (every entryNumbers (entryRows l)
+    && every featureNumbers (featureRows l)))
+
+-- ---- 12: is each written part, and each written row, inside?
+
+unfoldable pub inside : List ℕ → ℕ → ℕ → Bool
+inside buffer at n = leb (at + n) (length buffer)
+
+unfoldable pub featureInside : List ℕ → FeatureRow → Bool
+featureInside buffer f = inside buffer (f .at) (f .len)
+
+unfoldable pub entryInside : Lent → EntryRow → Bool
+entryInside l r =
+    inside (l .buffer) (r .agentat) (r .agentlen)
+    && (inside (l .buffer) (r .nameat) (r .namelen)
+    && ((eqb (r .addrlen) 0 || inside (l .buffer) (r .addrat) (r .addrlen - 4))
+    && (leb (r .first + r .count) (length (l .features) / 3)
+    && every (featureInside (l .buffer)) (ownRows l r))))

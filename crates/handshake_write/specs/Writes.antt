@@ -1,0 +1,89 @@
+-- The writers of entries and handshakes: what each says, and the bytes it writes.
+use Prim.Native.Nat.{ℕ, _/_}
+use mathlib.Core.Bool.{Bool, true, false, cond, _&&_}
+use mathlib.Core.List.{List, [], _∷_, _++_}
+use lib.Dec.{ltb}
+use lib.IntN.{ℤ}
+use lib.ListN.{length}
+use Rattle.wire.specs.Output.{Question, ask, written}
+use Rattle.wire.specs.declared.Written.{Written}
+use Rattle.vlq.specs.Vlq.{vlqBytes}
+use Rattle.zigzag.specs.Zigzag.{zigzagEncode}
+use Rattle.types.specs.declared.Network.{Network}
+use Rattle.types.specs.declared.ProxyMode.{ProxyMode}
+use Rattle.types.specs.declared.ProxyMode.the-variants.{Full, Light}
+use Rattle.types.specs.declared.Version.{Version}
+use Rattle.types.specs.declared.Address.{Address}
+use Rattle.types.specs.Magic.{magicOf}
+use Rattle.handshake.specs.Value.{FeatureValue, EntryValue, HandshakeValue, entryBytes, handshakeBytes, entriesAsked}
+use Rattle.handshake_write.specs.Tables.{Lent, entryRow, entryOf, tablesWhole, entryInside}
+
+-- ---- from a row of a table
+
+-- the value of row k
+abbrev pub entryAt : Lent → ℕ → EntryValue
+entryAt l k = entryOf l (entryRow (l .entries) k)
+
+-- 12: is the row in its table, and is all that it names inside?
+unfoldable pub rowInside : Lent → ℕ → Bool
+rowInside l k = ltb k (length (l .entries) / 12) && entryInside l (entryRow (l .entries) k)
+
+-- the questions after the place's, of the one entry in row k
+abbrev pub rowAsked : Lent → ℕ → List Question
+rowAsked l k = ask 12 (rowInside l k) ∷ entriesAsked (entryAt l k ∷ [])
+
+unfoldable pub entryWritten : Lent → ℕ → List ℕ → ℕ → Written
+entryWritten l k out at = written (ask 16 (tablesWhole l) ∷ []) (rowAsked l k) out at (entryBytes (entryAt l k))
+
+-- a timestamp with the entry in row k
+abbrev pub handshakeAt : ℕ → Lent → ℕ → HandshakeValue
+handshakeAt timestamp l k = record { timestamp = timestamp; entry = entryAt l k }
+
+unfoldable pub handshakeWritten : ℕ → Lent → ℕ → List ℕ → ℕ → Written
+handshakeWritten timestamp l k out at =
+    written (ask 16 (tablesWhole l) ∷ []) (rowAsked l k) out at (handshakeBytes (handshakeAt timestamp l k))
+
+-- ---- `build`
+
+-- what `build` is given: strings as slices, the timestamp and the session id from the caller
+pub record Config : Type 0 where
+  pub network : Network
+  pub mode : ProxyMode
+  pub stateType : ℕ
+  pub verifying : Bool
+  pub blocksToKeep : ℤ
+  pub agent : List ℕ
+  pub version : Version
+  pub name : List ℕ
+  pub address : Address
+  pub timestamp : ℕ
+  pub sessionId : ℤ
+
+unfoldable pub nipopow : ProxyMode → List ℕ
+nipopow Full = 0 ∷ []
+nipopow Light = 1 ∷ 2 ∷ []
+
+-- 16 (Mode): state type byte, verifying byte 0 or 1, then 00 in Full or 01 02 in Light, then zigzag VLQ of blocks to keep
+unfoldable pub modeFeature : Config → FeatureValue
+modeFeature c =
+    record { id = 16; body = c .stateType ∷ (cond (c .verifying) 1 0 ∷ (nipopow (c .mode) ++ vlqBytes (zigzagEncode (c .blocksToKeep)))) }
+
+-- 3 (Session): magic, zigzag VLQ of the session id
+unfoldable pub sessionFeature : Config → FeatureValue
+sessionFeature c = record { id = 3; body = magicOf (c .network) ++ vlqBytes (zigzagEncode (c .sessionId)) }
+
+unfoldable pub built : Config → HandshakeValue
+built c =
+    record {
+      timestamp = c .timestamp;
+      entry = record {
+        agent = c .agent;
+        version = c .version;
+        name = c .name;
+        address = c .address;
+        features = modeFeature c ∷ sessionFeature c ∷ [];
+      };
+    }
+
+unfoldable pub builtWritten : Config → List ℕ → ℕ → Written
+builtWritten c out at = written [] (entriesAsked (built c .entry ∷ [])) out at (handshakeBytes (built c))

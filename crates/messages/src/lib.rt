@@ -1,0 +1,1 @@
+// Message bodies, read from lent bytes (protocol/messages.rs).

@@ -1,0 +1,5 @@
+pub mod Magic
+pub mod Order
+pub mod OrderLaws
+pub mod Places
+pub mod Cases

@@ -1,0 +1,2 @@
+mod Leads
+mod Walk

@@ -1,0 +1,63 @@
+// UTF-8 (RFC 3629), as `String::from_utf8` tests it.
+ghost use mathlib.Core.Path.{_≡_};
+ghost use Rattle.utf8.specs.Utf8.{leadOf, utf8};
+
+// What a lead byte says: how many followers it has, and the bounds of the first.
+pub enum Lead {
+    Followers(u8, u8, u8),
+    Bad,
+}
+
+// The table of document 01, which is the grammar of RFC 3629, section 4.
+pub fn lead_of(b: u8) -> Lead
+    ensures { λ r. ⌜ r ≡ leadOf b ⌝ }
+{
+    match b {
+        0x00..=0x7F => Lead::Followers(0, 0x80, 0xBF),
+        0xC2..=0xDF => Lead::Followers(1, 0x80, 0xBF),
+        0xE0 => Lead::Followers(2, 0xA0, 0xBF),
+        0xE1..=0xEC | 0xEE..=0xEF => Lead::Followers(2, 0x80, 0xBF),
+        0xED => Lead::Followers(2, 0x80, 0x9F),
+        0xF0 => Lead::Followers(3, 0x90, 0xBF),
+        0xF1..=0xF3 => Lead::Followers(3, 0x80, 0xBF),
+        0xF4 => Lead::Followers(3, 0x80, 0x8F),
+        _ => Lead::Bad,
+    }
+}
+
+// Is all of s UTF-8?
+pub fn is_utf8(s: &[u8]) -> bool
+    ensures { λ r. ⌜ r ≡ utf8 (now (s .entry)) ⌝ }
+{
+    let mut at = 0;
+    let mut left: u8 = 0;
+    let mut low: u8 = 0x80;
+    let mut high: u8 = 0xBF;
+    while at < s.len() {
+        let b = s[at];
+        at += 1;
+        if left == 0 {
+            if 0x7F < b {
+                match lead_of(b) {
+                    Lead::Followers(n, a, z) => {
+                        left = n;
+                        low = a;
+                        high = z;
+                    }
+                    Lead::Bad => return false,
+                }
+            }
+        } else {
+            if b < low {
+                return false;
+            }
+            if high < b {
+                return false;
+            }
+            left -= 1;
+            low = 0x80;
+            high = 0xBF;
+        }
+    }
+    left == 0
+}

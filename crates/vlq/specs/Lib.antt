@@ -1,0 +1,5 @@
+pub mod Vlq
+pub mod ShortString
+pub mod Answers
+pub mod VlqLaws
+pub mod ShortStringLaws

@@ -1,0 +1,46 @@
+-- What holds of every session, for every network and Peers cap. The statements alone; `TheoremsProved` proves them.
+use Prim.Native.Nat.{ℕ, _+_, _*_, _≤_}
+use mathlib.Core.List.{List, [], _∷_, map}
+use mathlib.Core.Logic.{_⊎_}
+use mathlib.Core.Path.{_≡_}
+use lib.ListN.{length, take}
+use Rattle.types.specs.declared.Network.{Network}
+use Rattle.walk.specs.Walk.{Layer, Item, Ending, clean, stopped, Reading}
+use Rattle.walk.specs.CutRule.{CutRule}
+use Rattle.walk.specs.Session.{Content, sessionReading}
+use Rattle.walk.specs.WrittenSession.{Write, writeValue, AllTyped, Done, writeAll, sessionBytes, HandshakeFirst, itemValues}
+
+-- each item starts where the last one ended, the first at a place
+pub data Chained {F : Type 0} : ℕ → List (Item F) → Type 0 where
+  end : {at : ℕ} → Chained at []
+  link : {at : ℕ} {i : Item F} {is : List (Item F)} → i .start ≡ at → Chained (i .end) is → Chained at (i ∷ is)
+
+module _ (network : Network) (cap : ℕ) where
+  -- The cut rule: for all bytes and every cut up to their length.
+  abbrev pub CutAnywhere : Type 0
+  CutAnywhere = (s : List ℕ) (k : ℕ) → k ≤ length s → CutRule k (sessionReading network cap s) (sessionReading network cap (take k s))
+
+  -- Written sessions: the bytes of every list of writes from the start of any output, refused ones included, in which exactly one handshake is
+  -- accepted, before any message is, read as the accepted values, in order, and end cleanly.
+  abbrev pub ReadsAsWritten : Type 0
+  ReadsAsWritten =
+      (ws : List Write) (out : List ℕ) → AllTyped ws → HandshakeFirst (writeAll network cap ws out 0 .accepted)
+      → (itemValues (sessionReading network cap (sessionBytes (writeAll network cap ws out 0)) .items) ≡ map writeValue (writeAll network cap ws out 0 .accepted))
+      × (sessionReading network cap (sessionBytes (writeAll network cap ws out 0)) .ending ≡ clean)
+
+  -- Two such lists whose written bytes are equal have equal accepted handshakes and messages.
+  abbrev pub OneMeaning : Type 0
+  OneMeaning =
+      (ws ws′ : List Write) (out out′ : List ℕ) → AllTyped ws → AllTyped ws′
+      → HandshakeFirst (writeAll network cap ws out 0 .accepted) → HandshakeFirst (writeAll network cap ws′ out′ 0 .accepted)
+      → sessionBytes (writeAll network cap ws out 0) ≡ sessionBytes (writeAll network cap ws′ out′ 0)
+      → map writeValue (writeAll network cap ws out 0 .accepted) ≡ map writeValue (writeAll network cap ws′ out′ 0 .accepted)
+
+  -- Every reading ends in a clean end or a stop; its items follow one another from 0 on; there is at most one for each eight bytes.
+  abbrev pub Ends : Type 0
+  Ends =
+      (s : List ℕ) →
+      ((sessionReading network cap s .ending ≡ clean)
+      ⊎ ((layer : Layer) × (n : ℕ) × (at : ℕ) × (sessionReading network cap s .ending ≡ stopped layer n at)))
+      × Chained 0 (sessionReading network cap s .items)
+      × (8 * length (sessionReading network cap s .items) ≤ length s)

@@ -1,0 +1,124 @@
+-- Written sessions (document 01, "The session walk", the paragraph on written sessions): lists of writes from place 0 of an output.
+use Prim.Native.Nat.{ℕ, _+_, _^_, _<_}
+use mathlib.Core.Bool.{Bool, true, false}
+use mathlib.Core.List.{List, [], _∷_, map}
+use mathlib.Core.Path.{_≡_}
+use lib.Dec.{ltb}
+use lib.ListN.{length, take}
+use Rattle.wire.specs.Bytes.{every}
+use Rattle.wire.specs.Output.{outputAfter}
+use Rattle.wire.specs.declared.Written.{Written}
+use Rattle.wire.specs.declared.Written.the-variants.{To, Refused}
+use Rattle.types.specs.declared.Network.{Network}
+use Rattle.types.specs.declared.Address.{Address}
+use Rattle.types.specs.declared.Address.the-variants.{None, V4, V6}
+use Rattle.handshake.specs.Value.{HandshakeValue, handshakeValue, handshakeBytes}
+use Rattle.handshake_write.specs.Tables.{Lent}
+use Rattle.handshake_write.specs.Writes.{Config, built, builtWritten, handshakeAt, handshakeWritten}
+use Rattle.messages.specs.Value.{MessageValue, messageValue}
+use Rattle.messages_write.specs.Writes as Messages
+use Rattle.messages_write.specs.Writes.{MessageWrite, messageBytes, messageWritten}
+use Rattle.walk.specs.Walk.{Item, Ending, clean, Reading}
+use Rattle.walk.specs.Session.{Fields, handshakeFields, messageFields, Content}
+
+-- one call of a writer, with all that it was given
+pub data Write : Type 0 where
+  -- a timestamp, the tables with their buffer, and the row of the entry
+  writeHandshake : ℕ → Lent → ℕ → Write
+  writeBuilt : Config → Write
+  writeMessage : MessageWrite → Write
+
+-- the value of a write and of an item: a timestamp with an entry, or a message
+pub data Value : Type 0 where
+  handshakeOf : HandshakeValue → Value
+  messageOf : MessageValue → Value
+
+unfoldable pub writeValue : Write → Value
+writeValue (writeHandshake timestamp l k) = handshakeOf (handshakeAt timestamp l k)
+writeValue (writeBuilt c) = handshakeOf (built c)
+writeValue (writeMessage w) = messageOf (Messages.valueOf w)
+
+unfoldable pub fieldsValue : Fields → Value
+fieldsValue (handshakeFields h) = handshakeOf (handshakeValue h)
+fieldsValue (messageFields code start m) = messageOf (messageValue code m)
+
+-- ---- the numbers of a call are in the range of their types: a u8, u16, u32 or u64
+
+unfoldable pub bytesTyped : List ℕ → Bool
+bytesTyped l = every (λ b. ltb b 256) l
+
+unfoldable pub AddressTyped : Address → Type 0
+AddressTyped None = Unit {0}
+AddressTyped (V4 ip port) = (ip < 2 ^ 32) × (port < 2 ^ 16)
+AddressTyped (V6 high low port) = (high < 2 ^ 64) × (low < 2 ^ 64) × (port < 2 ^ 16)
+
+unfoldable pub MessageTyped : MessageWrite → Type 0
+MessageTyped (Messages.writePeers l) = bytesTyped (l .buffer) ≡ true
+MessageTyped Messages.writeGetPeers = Unit {0}
+MessageTyped (Messages.writeModifierRequest type ids buffer) = Unit {0}
+MessageTyped (Messages.writeModifierResponse type payloads buffer) = Unit {0}
+MessageTyped (Messages.writeInv type ids buffer) = Unit {0}
+MessageTyped (Messages.writeSyncInfo body) = Unit {0}
+MessageTyped (Messages.writeUnknown code body) = Unit {0}
+
+unfoldable pub Typed : Write → Type 0
+Typed (writeHandshake timestamp l k) = (timestamp < 2 ^ 64) × (bytesTyped (l .buffer) ≡ true)
+Typed (writeBuilt c) = (c .timestamp < 2 ^ 64) × AddressTyped (c .address)
+Typed (writeMessage w) = MessageTyped w
+
+pub data AllTyped : List Write → Type 0 where
+  none : AllTyped []
+  more : {w : Write} {ws : List Write} → Typed w → AllTyped ws → AllTyped (w ∷ ws)
+
+-- ---- what a list of writes leaves
+
+module _ (network : Network) (cap : ℕ) where
+  -- what a write says, into an output from a place
+  unfoldable pub said : Write → List ℕ → ℕ → Written
+  said (writeHandshake timestamp l k) out at = handshakeWritten timestamp l k out at
+  said (writeBuilt c) out at = builtWritten c out at
+  said (writeMessage w) out at = messageWritten network cap w out at
+
+  unfoldable pub writeBytes : Write → List ℕ
+  writeBytes (writeHandshake timestamp l k) = handshakeBytes (handshakeAt timestamp l k)
+  writeBytes (writeBuilt c) = handshakeBytes (built c)
+  writeBytes (writeMessage w) = messageBytes network (Messages.valueOf w)
+
+-- the output, the place where the last accepted write ended, and the accepted writes, in order
+pub record Done : Type 0 where
+  pub out : List ℕ
+  pub at : ℕ
+  pub accepted : List Write
+
+-- a refused write moves nothing
+unfoldable pub after : Write → Written → List ℕ → ℕ → (List ℕ → ℕ → Done) → Done
+after w (To end) out at next = record { out = next out end .out; at = next out end .at; accepted = w ∷ next out end .accepted }
+after w (Refused n) out at next = next out at
+
+module _ (network : Network) (cap : ℕ) where
+  -- each write gets the output as the last one left it, from where the last accepted one ended
+  unfoldable pub writeAll : List Write → List ℕ → ℕ → Done
+  writeAll [] out at = record { out = out; at = at; accepted = [] }
+  writeAll (w ∷ ws) out at =
+      after w (said network cap w out at) (outputAfter (said network cap w out at) out at (writeBytes network cap w)) at (λ out at. writeAll ws out at)
+
+-- the session's bytes: the output up to the end of the last accepted write
+unfoldable pub sessionBytes : Done → List ℕ
+sessionBytes d = take (d .at) (d .out)
+
+-- exactly one handshake is accepted, before any message is
+unfoldable pub isHandshake : Write → Bool
+isHandshake (writeHandshake timestamp l k) = true
+isHandshake (writeBuilt c) = true
+isHandshake (writeMessage w) = false
+
+pub data OnlyMessages : List Write → Type 0 where
+  none : OnlyMessages []
+  more : {w : Write} {ws : List Write} → isHandshake w ≡ false → OnlyMessages ws → OnlyMessages (w ∷ ws)
+
+pub data HandshakeFirst : List Write → Type 0 where
+  first : {w : Write} {ws : List Write} → isHandshake w ≡ true → OnlyMessages ws → HandshakeFirst (w ∷ ws)
+
+-- the values of a reading's items, in order
+unfoldable pub itemValues : List (Item Content) → List Value
+itemValues is = map (λ (i : Item Content). fieldsValue (i .holds .fields)) is

@@ -1,0 +1,10 @@
+pub mod Bytes
+pub mod Reader
+pub mod ReaderLaws
+pub mod Stable
+pub mod StableLaws
+pub mod Output
+pub mod OutputLaws
+pub mod ReadsBack
+pub mod ReadsBackLaws
+pub mod Numbers

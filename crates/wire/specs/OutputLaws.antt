@@ -1,0 +1,113 @@
+-- Laws of `put`: one write after another is one write; where there is room, the bytes stand in the output and every other byte is as it was.
+use Prim.Native.Nat.{ℕ, zero, suc, _+_, _-_, _≤_, _<_}
+use native.Mathlib.Nat.{add-zero}
+use native.Mathlib.Numerals.{add-one}
+use native.Mathlib.Omega.{arith}
+use mathlib.Core.Bool.{Bool, true, false}
+use mathlib.Core.List.{List, [], _∷_, _++_, append-assoc}
+use mathlib.Core.Path.{_≡_, refl, sym, ap, _∙_}
+use lib.ListN.{length, getD, take, drop, set, length-set, length-append, length-take, length-drop}
+use lib.Seq.{drop-cons, sets, sets-eq, take-at, drop-at, drop-drop, length-take-le, take-append-seam}
+use Rattle.wire.specs.declared.Written.{Written}
+use Rattle.wire.specs.declared.Written.the-variants.{To, Refused}
+use Rattle.wire.specs.Output.{put, Question, ask, asked, written, outputAfter}
+
+pub length-put : (out : List ℕ) (at : ℕ) (bs : List ℕ) → length (put out at bs) ≡ length out
+unfolding put
+length-put out at [] = refl
+length-put out at (b ∷ bs) = length-put (set out at b) (at + 1) bs ∙ length-set out at b
+
+-- a second write from where the first ended
+pub put-put : (a : List ℕ) (out : List ℕ) (at : ℕ) (b : List ℕ) → put (put out at a) (at + length a) b ≡ put out at (a ++ b)
+unfolding put
+put-put [] out at b = rw add-zero
+put-put (x ∷ a) out at b =
+    let e : at + suc (length a) ≡ at + 1 + length a = omega arith in
+    rw e (put-put a (set out at x) (at + 1) b)
+
+put-sets : (bs out : List ℕ) (at : ℕ) → put out at bs ≡ sets out at bs
+unfolding put
+put-sets [] out at = refl
+put-sets (b ∷ bs) out at = rw add-one (put-sets bs (set out at b) (suc at))
+
+-- where there is room: what stood before, the bytes, what stood after
+module _ (out : List ℕ) (at : ℕ) (bs : List ℕ) (room : at + length bs ≤ length out) where
+  pub put-eq : put out at bs ≡ take at out ++ bs ++ drop (at + length bs) out
+  put-eq = put-sets bs out at ∙ sets-eq bs out at room
+
+  before-length : length (take at out) ≡ at
+  before-length = length-take-le at out (omega arith)
+
+  put-eq′ : put out at bs ≡ take at out ++ (bs ++ drop (at + length bs) out)
+  put-eq′ = put-eq ∙ append-assoc (take at out) bs (drop (at + length bs) out)
+
+  pub put-before : take at (put out at bs) ≡ take at out
+  put-before = ap (take at) put-eq′ ∙ take-at (take at out) _ at before-length
+
+  pub put-here : take (length bs) (drop at (put out at bs)) ≡ bs
+  put-here =
+      ap (λ (l : List ℕ). take (length bs) (drop at l)) put-eq′
+      ∙ ap (take (length bs)) (drop-at (take at out) _ at before-length)
+      ∙ take-append-seam bs (drop (at + length bs) out)
+
+  pub put-after : drop (at + length bs) (put out at bs) ≡ drop (at + length bs) out
+  put-after =
+      ap (drop (at + length bs)) put-eq
+      ∙ drop-at (take at out ++ bs) (drop (at + length bs) out) (at + length bs) (length-append (take at out) bs ∙ ap (λ (n : ℕ). n + length bs) before-length)
+
+-- ---- one write after another, in code
+
+-- a write of the bytes bs to out from the place at ended at e and left last
+pub record Wrote (out : List ℕ) (at : ℕ) (bs : List ℕ) (e : ℕ) (last : List ℕ) : Type 0 where
+  pub end : e ≡ at + length bs
+  pub bytes : last ≡ put out at bs
+
+pub wrote-then : {out : List ℕ} {at : ℕ} {a : List ℕ} {m : ℕ} {mid : List ℕ} {b : List ℕ} {e : ℕ} {last : List ℕ}
+    → Wrote out at a m mid → Wrote mid m b e last → Wrote out at (a ++ b) e last
+wrote-then {out} {at} {a} {m} {mid} {b} {e} {last} v w =
+    record {
+      end = omega (arith, v .end, w .end, length-append a b);
+      bytes = w .bytes ∙ ap (λ (o : List ℕ). put o m b) (v .bytes) ∙ ap (λ (k : ℕ). put (put out at a) k b) (v .end) ∙ put-put a out at b;
+    }
+
+pub wrote-byte : (out : List ℕ) (at b : ℕ) → Wrote out at (b ∷ []) (at + 1) (set out at b)
+unfolding put
+wrote-byte out at b = record { end = refl; bytes = refl }
+
+pub wrote-none : (out : List ℕ) (at : ℕ) → Wrote out at [] at out
+unfolding put
+wrote-none out at = record { end = sym (add-zero at); bytes = refl }
+
+pub wrote-length : {out : List ℕ} {at : ℕ} {bs : List ℕ} {e : ℕ} {last : List ℕ} → Wrote out at bs e last → length last ≡ length out
+wrote-length {out} {at} {bs} w = ap length (w .bytes) ∙ length-put out at bs
+
+-- a loop that writes bs has come to the place m, left mid, and has rest still to write
+pub record Writing (out : List ℕ) (at : ℕ) (bs : List ℕ) (m : ℕ) (mid rest : List ℕ) : Type 0 where
+  pub end : m + length rest ≡ at + length bs
+  pub bytes : put mid m rest ≡ put out at bs
+  pub long : length mid ≡ length out
+
+pub writing-start : (out : List ℕ) (at : ℕ) (bs : List ℕ) → Writing out at bs at out bs
+writing-start out at bs = record { end = refl; bytes = refl; long = refl }
+
+-- a turn writes a, the first part of the rest
+pub writing-turn : {out : List ℕ} {at : ℕ} {bs : List ℕ} {m : ℕ} {mid : List ℕ} {e : ℕ} {last rest : List ℕ} (a b : List ℕ)
+    → rest ≡ a ++ b → Writing out at bs m mid rest → Wrote mid m a e last → Writing out at bs e last b
+writing-turn {out} {at} {bs} {m} {mid} {e} {last} {rest} a b p s w =
+    record {
+      end = omega (arith, s .end, w .end, length-append a b, ap length p);
+      bytes =
+          ap (λ (o : List ℕ). put o e b) (w .bytes) ∙ ap (λ (k : ℕ). put (put mid m a) k b) (w .end)
+          ∙ put-put a mid m b ∙ ap (λ (r : List ℕ). put mid m r) (sym p) ∙ s .bytes;
+      long = wrote-length w ∙ s .long;
+    }
+
+pub writing-end : {out : List ℕ} {at : ℕ} {bs : List ℕ} {m : ℕ} {mid rest : List ℕ} → rest ≡ [] → Writing out at bs m mid rest → Wrote out at bs m mid
+unfolding put
+writing-end {out} {at} {bs} {m} {mid} {rest} z s =
+    record { end = omega (arith, s .end, ap length z); bytes = rw z at (s .bytes) }
+
+-- where the whole has room, so has the first part of the rest
+pub writing-room : {out : List ℕ} {at : ℕ} {bs : List ℕ} {m : ℕ} {mid rest : List ℕ} (a b : List ℕ)
+    → rest ≡ a ++ b → Writing out at bs m mid rest → at + length bs ≤ length out → m + length a ≤ length mid
+writing-room a b p s h = omega (arith, s .end, s .long, length-append a b, ap length p)

@@ -1,0 +1,90 @@
+-- What a field answers, from tests on numbers; answers seen through a function; and the law of a loop that takes the turns of a `fold` one by one.
+use Prim.Native.Nat.{ℕ, zero, suc, _+_, _-_, _<_, _≤_}
+use native.Mathlib.Omega.{arith}
+use native.Mathlib.Nat.{sub-zero}
+use mathlib.Core.Bool.{Bool, true, false}
+use mathlib.Core.List.{List}
+use mathlib.Core.Path.{_≡_, refl, ap, sym, _∙_}
+use lib.ListN.{length, getD, take, drop, length-take, length-drop}
+use borrow.Author.Tests.{le-leb, lt-leb}
+use Rattle.wire.specs.declared.Part.{Part}
+use Rattle.wire.specs.Reader.{Answer, got, refused, Reader, bind, field, byte, Segment, part, partOf, mapAnswer, fold, andThen, pure}
+
+module _ {A : Type 0} (m n : ℕ) (v : List ℕ → ℕ → A) (s : List ℕ) (at : ℕ) where
+  pub field-got : at + n ≤ length s → field m n v s at ≡ got (v s at) (at + n)
+  field-got h = rw (le-leb at (length s) (omega arith), le-leb (at + n) (length s) h)
+
+  pub field-missing : at ≤ length s → length s < at + n → field m n v s at ≡ refused m
+  field-missing h g = rw (le-leb at (length s) h, lt-leb (at + n) (length s) g)
+
+  pub field-outside : length s < at → field m n v s at ≡ refused 12
+  field-outside h = rw (lt-leb at (length s) h)
+
+pub byte-got : (s : List ℕ) (at : ℕ) → at < length s → byte s at ≡ got (getD s at 0) (at + 1)
+byte-got s at h = field-got 1 1 (λ s at. getD s at 0) s at (omega arith)
+
+pub byte-missing : (s : List ℕ) (at : ℕ) → at ≡ length s → byte s at ≡ refused 1
+byte-missing s at h = field-missing 1 1 (λ s at. getD s at 0) s at (omega arith) (omega arith)
+
+pub byte-outside : (s : List ℕ) (at : ℕ) → length s < at → byte s at ≡ refused 12
+byte-outside s at h = field-outside 1 1 (λ s at. getD s at 0) s at h
+
+module _ (n : ℕ) (s : List ℕ) (at : ℕ) where
+  pub part-got : at + n ≤ length s → part n s at ≡ got (record { start = at; bytes = take n (drop at s) }) (at + n)
+  part-got h = field-got 1 n (λ s at. record { start = at; bytes = take n (drop at s) }) s at h
+
+  pub part-missing : at ≤ length s → length s < at + n → part n s at ≡ refused 1
+  part-missing h g = field-missing {A = Segment} 1 n (λ s at. record { start = at; bytes = take n (drop at s) }) s at h g
+
+  pub part-outside : length s < at → part n s at ≡ refused 12
+  part-outside h = field-outside {A = Segment} 1 n (λ s at. record { start = at; bytes = take n (drop at s) }) s at h
+
+  pub length-part : at + n ≤ length s → length (take n (drop at s)) ≡ n
+  length-part h = simp (length-take, length-drop) (omega arith)
+
+  -- as the code gives it
+  pub part-place : at + n ≤ length s → mapAnswer partOf (part n s at) ≡ got (record { start = at; len = n }) (at + n)
+  part-place h = rw (part-got h, length-part h)
+
+-- ---- answers seen through a function
+
+module _ {A B : Type 0} (f : A → B) where
+  pub map-got : (r : Answer A) {b : B} {next : ℕ} → mapAnswer f r ≡ got b next → (a : A) × (r ≡ got a next) × (f a ≡ b)
+  map-got (got a n) {b} {next} e = (a, ap (got a) (cc), cc)
+  map-got (refused m) e = let z : _≡_ {A = ℕ} 0 1 = cc in absurd (omega arith)
+
+  pub map-refused : (r : Answer A) {m : ℕ} → mapAnswer f r ≡ refused m → r ≡ refused m
+  map-refused (got a n) e = let z : _≡_ {A = ℕ} 0 1 = cc in absurd (omega arith)
+  map-refused (refused n) e = ap refused (cc)
+
+-- ---- counted loops
+
+-- k of the n turns are done; a and at are the value and the place so far
+pub record FoldSoFar {A : Type 0} (p : A → Reader A) (s : List ℕ) (n : ℕ) (a₀ : A) (at₀ : ℕ) (a : A) (at k : ℕ) : Type 0 where
+  pub within : k ≤ n
+  pub same : fold n p a₀ s at₀ ≡ fold (n - k) p a s at
+
+pub fold-start : {A : Type 0} (p : A → Reader A) (s : List ℕ) (n : ℕ) (a : A) (at : ℕ) → FoldSoFar p s n a at a at 0
+fold-start p s n a at = record { within = omega arith; same = rw sub-zero }
+
+module _ {A : Type 0} {p : A → Reader A} {s : List ℕ} {n : ℕ} {a₀ : A} {at₀ : ℕ} {a : A} {at k : ℕ} (inv : FoldSoFar p s n a₀ at₀ a at k) where
+  one-less : k < n → n - k ≡ suc (n - (k + 1))
+  one-less h = omega arith
+
+  pub fold-turn : {b : A} {next : ℕ} → k < n → p a s at ≡ got b next → FoldSoFar p s n a₀ at₀ b next (k + 1)
+  unfolding fold
+  fold-turn {b} {next} h q = record {
+      within = omega arith;
+      same =
+        let g : fold (suc (n - (k + 1))) p a s at ≡ fold (n - (k + 1)) p b s next = rw q in
+        inv .same ∙ rw (one-less h) g }
+
+  pub fold-refused : {m : ℕ} → k < n → p a s at ≡ refused m → refused m ≡ fold n p a₀ s at₀
+  unfolding fold
+  fold-refused {m} h q =
+      let g : fold (suc (n - (k + 1))) p a s at ≡ refused m = rw q in
+      sym (inv .same ∙ rw (one-less h) g)
+
+  pub fold-end : n ≤ k → got a at ≡ fold n p a₀ s at₀
+  unfolding fold
+  fold-end h = let f : n - k ≡ 0 = omega arith in sym (inv .same ∙ rw f)
