@@ -1,5 +1,5 @@
--- A chain of tests joined by `|` says whether some row contains the address. The tests are computed from the rows, so that a function of the
--- code has them by computation: of an IPv4 address on its number, of an IPv6 address on its two halves.
+-- A chain of tests joined by `|` says whether some row contains the address. Each test is computed from its row: of an IPv4 address on its
+-- number, of an IPv6 address on its two halves. So a function's whole chain is its list of rows, by computation.
 use Prim.Native.Nat.{ℕ, zero, suc, _+_, _*_, _-_, _/_, _%_, _^_, _≤_, _<_}
 use native.Mathlib.Nat.{div-one, div-add-mod'}
 use native.Mathlib.Omega.{arith}
@@ -9,11 +9,12 @@ use mathlib.Core.Bool.{Bool, true, false, cond, _||_, _&&_, or-assoc, or-false}
 use lib.Dec.{eqb, leb}
 use lib.Pow.{high, low, shr-shr, field}
 use borrow.Author.Tests.{eq-eqb, ne-eqb, eqb-true, eqb-false, leb-true, leb-false}
-use Rattle.address_sanity.specs.Ranges.{Range}
 use Rattle.types.specs.declared.Network.{Network}
 use Rattle.types.specs.declared.Network.the-variants.{Mainnet, Testnet}
+use Rattle.address_sanity.specs.Ranges.{Range}
 use Rattle.address_sanity.specs.Bogus.{contains, someContains, isMainnet, rowsOn}
 
+-- the rows' tests, joined from the left
 abbrev pub joined : (Range → Bool) → List Range → Bool
 joined test rows = foldl (λ t row. t || test row) false rows
 

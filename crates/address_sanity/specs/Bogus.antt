@@ -13,6 +13,7 @@ use Rattle.address_sanity.specs.Ranges.{Range, alwaysV4, alwaysV6, mainn
 unfoldable pub contains : ℕ → Range → ℕ → Bool
 contains width (first, len) a = eqb (a / 2 ^ (width - len)) (first / 2 ^ (width - len))
 
+-- some row contains the address
 unfoldable pub someContains : ℕ → List Range → ℕ → Bool
 someContains width [] a = false
 someContains width (row ∷ rows) a = contains width row a || someContains width rows a
@@ -26,7 +27,7 @@ abbrev pub rowsOn : Network → List Range → List Range → List Range
 rowsOn Mainnet always mainnet = always ++ mainnet
 rowsOn Testnet always mainnet = always
 
--- no address is not bogus, and the port plays no part
+-- None is not bogus, and the port plays no part
 unfoldable pub bogus : Address → Network → Bool
 bogus None network = false
 bogus (V4 ip port) network = someContains 32 (rowsOn network alwaysV4 mainnetV4) ip

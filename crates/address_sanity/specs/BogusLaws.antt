@@ -23,7 +23,7 @@ last width (first, len) = first + (2 ^ (width - len) - 1)
 unfoldable pub wellFormed : ℕ → Range → Bool
 wellFormed width (first, len) = eqb (first % 2 ^ (width - len)) 0 && ltb (last width (first, len)) (2 ^ width)
 
--- numbers with the quotient of a multiple f of m
+-- the numbers whose quotient by m is that of its multiple f
 between : (m f a : ℕ) → zero < m → f % m ≡ 0 → eqb (a / m) (f / m) ≡ (leb f a && leb a (f + (m - 1)))
 between m f a pos e = go (leb f a) (leb a (f + (m - 1))) refl refl
   where
@@ -48,6 +48,7 @@ well-formed width (first, len) h =
     let parts = and-eq-true-iff (eqb (first % 2 ^ (width - len)) 0) (ltb (last width (first, len)) (2 ^ width)) .0 h in
     (eqb-true _ _ (parts .0), ltb-true _ _ (parts .1))
 
+-- a row contains the addresses from its first to its last
 pub contains-between : (width : ℕ) (row : Range) → wellFormed width row ≡ true
     → (a : ℕ) → contains width row a ≡ (leb (row .0) a && leb a (last width row))
 unfolding contains last
@@ -70,16 +71,15 @@ edges width row h =
     let f : ℕ = row .0 in
     let l : ℕ = last width row in
     let up : f ≤ l = first-last width row in
-    let between = contains-between width row h in
+    let judged = contains-between width row h in
     record {
-      first-in = between f ∙ simp (le-leb f f (omega arith), le-leb f l up);
-      last-in = between l ∙ simp (le-leb f l up, le-leb l l (omega arith));
-      before-out = λ pos. between (f - 1) ∙ simp (lt-leb f (f - 1) (omega arith));
-      after-out = between (l + 1) ∙ simp (le-leb f (l + 1) (omega arith), lt-leb (l + 1) l (omega arith));
+      first-in = judged f ∙ simp (le-leb f f (omega arith), le-leb f l up);
+      last-in = judged l ∙ simp (le-leb f l up, le-leb l l (omega arith));
+      before-out = λ pos. judged (f - 1) ∙ simp (lt-leb f (f - 1) (omega arith));
+      after-out = judged (l + 1) ∙ simp (le-leb f (l + 1) (omega arith), lt-leb (l + 1) l (omega arith));
       last-address = well-formed width row h .1;
     }
 
--- the table's rows
 every : (Range → Bool) → List Range → Bool
 every test [] = true
 every test (row ∷ rows) = test row && every test rows
@@ -91,6 +91,7 @@ every-row test (r ∷ rows) h row m =
     let parts = and-eq-true-iff (test r) (every test rows) .0 h in
     ⊎-elim (λ e. ap test e ∙ parts .0) (λ n. every-row test rows (parts .1) row n) (List·Memᴰ·cases-cons m)
 
+-- the edges of each row of the table
 pub edges-v4 : (row : Range) → List·Memᴰ row (alwaysV4 ++ mainnetV4) → Edges 32 row
 unfolding every wellFormed last alwaysV4 mainnetV4
 edges-v4 row m = edges 32 row (every-row (wellFormed 32) (alwaysV4 ++ mainnetV4) refl row m)

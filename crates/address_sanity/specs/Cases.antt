@@ -1,7 +1,7 @@
--- Document 01, "At the edges" and "Addresses": the cases of addresses, on both networks.
+-- Cases of addresses on both networks (document 01, "At the edges": 172.31.255.255 and 172.32.0.0; "Addresses": 0.0.0.1), one lemma for the table.
 use Prim.Native.Nat.{ℕ, _/_, _%_, _^_}
 use mathlib.Core.Path.{_≡_, refl}
-use mathlib.Core.List.{List, [], _∷_, _++_, map}
+use mathlib.Core.List.{List, [], _∷_, map}
 use mathlib.Core.Bool.{Bool, true, false}
 use Rattle.types.specs.declared.Network.the-variants.{Mainnet, Testnet}
 use Rattle.types.specs.declared.Address.{Address}
@@ -9,6 +9,7 @@ use Rattle.types.specs.declared.Address.the-variants.{None, V4, V6}
 use Rattle.address_sanity.specs.Ranges.{ipv4, ipv6, alwaysV4, alwaysV6, mainnetV4, mainnetV6}
 use Rattle.address_sanity.specs.Bogus.{contains, someContains, bogus}
 
+-- an address, and whether it is bogus on each network
 pub record Case : Type 0 where
   pub address : Address
   pub mainnet : Bool
@@ -32,7 +33,7 @@ cases =
     ∷ record { address = None; mainnet = false; testnet = false }
     ∷ []
 
-pub all-cases : map (λ (c : Case). bogus (c .address) Mainnet) cases ≡ map (λ (c : Case). c .mainnet) cases
+pub all-cases : (map (λ (c : Case). bogus (c .address) Mainnet) cases ≡ map (λ (c : Case). c .mainnet) cases)
     × (map (λ (c : Case). bogus (c .address) Testnet) cases ≡ map (λ (c : Case). c .testnet) cases)
 unfolding cases bogus someContains contains alwaysV4 alwaysV6 mainnetV4 mainnetV6
 all-cases = (refl, refl)

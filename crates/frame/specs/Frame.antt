@@ -1,8 +1,7 @@
 -- Frames (document 01, "Frames"): how one is read, question by question, and the bytes of one. Laws stand in `FrameLaws`.
 use Prim.Native.Nat.{ℕ, zero, suc, _+_}
-use mathlib.Core.Bool.{Bool, cond}
 use mathlib.Core.List.{List, [], _∷_, _++_}
-use lib.Dec.{eqb, leb}
+use lib.Dec.{leb}
 use lib.ListN.{length, getD, take, drop}
 use Rattle.wire.specs.Bytes.{bigEndian, bigEndianBytes, sameBytes}
 use Rattle.wire.specs.Reader.{Reader, pure, andThen, place, guard, field, Segment}

@@ -1,5 +1,6 @@
 // Entries and handshakes, read from lent bytes (transport/handshake.rs).
-use types::{Address, Version};
+use types::Address;
+use types::Version;
 use wire::Part;
 
 // The features of an entry: how many there are, and the place of the first.

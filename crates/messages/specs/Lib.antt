@@ -1,2 +1,4 @@
 pub mod Message
 pub mod Value
+pub mod MessageLaws
+pub mod Cases

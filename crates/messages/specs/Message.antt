@@ -1,8 +1,8 @@
 -- Message bodies as they are read (document 01, "Messages"): each from place 0 of a body, its places being places in the body.
 -- Bytes left over in a body are ignored. Laws stand in `MessageLaws`.
 use Prim.Native.Nat.{ℕ, _+_}
-use mathlib.Core.Bool.{Bool, cond}
-use mathlib.Core.List.{List, [], _∷_, _++_}
+use mathlib.Core.Bool.{cond}
+use mathlib.Core.List.{List, [], _∷_}
 use lib.Dec.{eqb, leb}
 use lib.ListN.{length}
 use Rattle.wire.specs.Reader.{got, Reader, pure, andThen, guard, byte, Segment, part, listOf}

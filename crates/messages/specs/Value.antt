@@ -1,7 +1,7 @@
 -- Messages by value: what a reading says apart from its places, the code and body of a value (document 01, "Messages"), and the questions a writer
 -- asks of the values (document 01, "Questions", Writers, from 13 on).
 use Prim.Native.Nat.{ℕ}
-use mathlib.Core.Bool.{Bool, true, false, not, _&&_}
+use mathlib.Core.Bool.{Bool, true, not, _&&_}
 use mathlib.Core.List.{List, [], _∷_, _++_, map, flatMap}
 use lib.Dec.{eqb, leb}
 use lib.ListN.{length}

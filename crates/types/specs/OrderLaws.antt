@@ -102,7 +102,10 @@ pub strict-total : StrictTotalOrder below
 unfolding below
 strict-total = record {
   irreflexive = λ v. simp thenBy-self;
-  transitive = λ u v w. thenBy-trans (u .major) (v .major) (w .major) _ _ _ (thenBy-trans (u .minor) (v .minor) (w .minor) _ _ _ (thenBy-trans (u .patch) (v .patch) (w .patch) _ _ _ (λ p q. q)));
+  transitive = λ u v w.
+      thenBy-trans (u .major) (v .major) (w .major) _ _ _
+      (thenBy-trans (u .minor) (v .minor) (w .minor) _ _ _
+      (thenBy-trans (u .patch) (v .patch) (w .patch) _ _ _ (λ p q. q)));
   total = λ v w h k.
       let a = thenBy-total (v .major) (w .major) _ _ h k in
       let b = thenBy-total (v .minor) (w .minor) _ _ (a .1) (a .2) in
@@ -110,9 +113,11 @@ strict-total = record {
       λ i. record { major = a .0 i; minor = b .0 i; patch = c .0 i };
 }
 
+-- a version as one number
 unfoldable pub number : Version → ℕ
 number v = v .major * 65536 + (v .minor * 256 + v .patch)
 
+-- the fields are bytes, as the code's are
 pub record Bytes (v : Version) : Type 0 where
   pub major : v .major < 256
   pub minor : v .minor < 256

@@ -92,10 +92,11 @@ impl BodyPlace {
     {
         let place = self.0;
         let from = start.0;
+        let room = usize::MAX - from;
         if length < place {
             return Located::Refused(12);
         }
-        if usize::MAX - from < length {
+        if room < length {
             return Located::Refused(12);
         }
         Located::At(StreamPlace(from + place))

@@ -20,16 +20,16 @@ module _ (n : ℕ) (s : List ℕ) (at : ℕ) where
   -- the code's part ends at at + n, so its length is written at + n - at
   pub string-got : (b : Bool) → at + n ≤ length s → utf8 (take (at + n - at) (drop at s)) ≡ b
       → mapAnswer partOf (string n s at) ≡ cond b (got (record { start = at; len = n }) (at + n)) (refused 4)
-  unfolding string
+  unfolding string mapAnswer
   string-got true h e = let z : at + n - at ≡ n = omega arith in rw (part-got n s at h, rw z at e, length-part n s at h)
   string-got false h e = let z : at + n - at ≡ n = omega arith in rw (part-got n s at h, rw z at e)
 
   pub string-missing : at ≤ length s → length s < at + n → mapAnswer partOf (string n s at) ≡ refused 1
-  unfolding string
+  unfolding string mapAnswer
   string-missing h g = rw (part-missing n s at h g)
 
   pub string-outside : length s < at → mapAnswer partOf (string n s at) ≡ refused 12
-  unfolding string
+  unfolding string mapAnswer
   string-outside h = rw (part-outside n s at h)
 
 module _ {isCut : ℕ → Bool} (one : T (isCut 1)) where

@@ -3,3 +3,8 @@ pub mod CutRule
 pub mod Session
 pub mod WrittenSession
 pub mod Theorems
+pub mod WalkLaws
+pub mod CutRuleLaws
+pub mod WrittenLaws
+pub mod SessionLaws
+pub mod Cases

@@ -1,4 +1,5 @@
 pub mod Bytes
+pub mod BytesLaws
 pub mod Reader
 pub mod ReaderLaws
 pub mod Stable
@@ -7,4 +8,5 @@ pub mod Output
 pub mod OutputLaws
 pub mod ReadsBack
 pub mod ReadsBackLaws
+pub mod ListLaws
 pub mod Numbers

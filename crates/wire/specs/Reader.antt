@@ -68,7 +68,7 @@ unfoldable pub listOf : {A : Type 0} → ℕ → (List A → Reader A) → Reade
 listOf n p = fold n (λ before. andThen (p before) (λ a. pure (before ++ (a ∷ [])))) []
 
 -- an answer whose value is seen through f
-abbrev pub mapAnswer : {A B : Type 0} → (A → B) → Answer A → Answer B
+unfoldable pub mapAnswer : {A B : Type 0} → (A → B) → Answer A → Answer B
 mapAnswer f r = bind r (λ a next. got (f a) next)
 
 -- what the code gives of a segment: its place and its length

@@ -44,18 +44,20 @@ module _ (n : ℕ) (s : List ℕ) (at : ℕ) where
 
   -- as the code gives it
   pub part-place : at + n ≤ length s → mapAnswer partOf (part n s at) ≡ got (record { start = at; len = n }) (at + n)
+  unfolding mapAnswer
   part-place h = rw (part-got h, length-part h)
 
 -- ---- answers seen through a function
 
-module _ {A B : Type 0} (f : A → B) where
-  pub map-got : (r : Answer A) {b : B} {next : ℕ} → mapAnswer f r ≡ got b next → (a : A) × (r ≡ got a next) × (f a ≡ b)
-  map-got (got a n) {b} {next} e = (a, ap (got a) (cc), cc)
-  map-got (refused m) e = let z : _≡_ {A = ℕ} 0 1 = cc in absurd (omega arith)
+pub map-got : {A B : Type 0} (f : A → B) {r : Answer A} {b : B} {next : ℕ} → mapAnswer f r ≡ got b next → (a : A) × (r ≡ got a next) × (f a ≡ b)
+unfolding mapAnswer
+map-got f {r = got a n} {b = b} {next = next} e = (a, ap (got a) (cc), cc)
+map-got f {r = refused m} e = let z : _≡_ {A = ℕ} 0 1 = cc in absurd (omega arith)
 
-  pub map-refused : (r : Answer A) {m : ℕ} → mapAnswer f r ≡ refused m → r ≡ refused m
-  map-refused (got a n) e = let z : _≡_ {A = ℕ} 0 1 = cc in absurd (omega arith)
-  map-refused (refused n) e = ap refused (cc)
+pub map-refused : {A B : Type 0} (f : A → B) {r : Answer A} {m : ℕ} → mapAnswer f r ≡ refused m → r ≡ refused m
+unfolding mapAnswer
+map-refused f {r = got a n} e = let z : _≡_ {A = ℕ} 0 1 = cc in absurd (omega arith)
+map-refused f {r = refused n} e = ap refused (cc)
 
 -- ---- counted loops
 

@@ -1,5 +1,6 @@
 -- `vlq::Cursor::read_short_string` meets its contract: the definition, rewritten with what its two readers answered.
 use mathlib.Core.Path.{sym, ap, _∙_}
+use Rattle.wire.specs.Reader.{mapAnswer}
 use Rattle.vlq.specs.ShortString.{shortString}
 use Rattle.vlq.specs.Answers.{byteAnswer}
 use borrow.Author.Needs.{needs}
@@ -26,13 +27,13 @@ enum-known-m : tie.Need-enum-known-m
 enum-known-m c = search needs
 
 returns : tie.Need-returns
-unfolding shortString
+unfolding shortString mapAnswer
 returns c =
     let e1 = sym (c .before .before .before .before .read-byte .ensures) ∙ ap byteAnswer (c .before .before .n .given .1) in
     rw (e1) (c .read-string .ensures)
 
 returns-2 : tie.Need-returns-2
-unfolding shortString
+unfolding shortString mapAnswer
 returns-2 c =
     let e1 = sym (c .before .before .before .read-byte .ensures) ∙ ap byteAnswer (c .before .m .given .1) in
     rw (e1)

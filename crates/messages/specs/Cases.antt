@@ -1,0 +1,79 @@
+-- Document 01, "At the edges", "Messages" and "Questions", Body: what is read of message bodies at the edges.
+use Prim.Native.Nat.{ℕ}
+use mathlib.Core.List.{List, [], _∷_, _++_, map}
+use mathlib.Core.Path.{_≡_, refl}
+use lib.ListN.{replicate}
+use Rattle.wire.specs.Reader.{Answer, got, refused, fold, listOf}
+use Rattle.utf8.specs.Utf8.{utf8From, utf8}
+use Rattle.vlq.specs.Vlq.{groups, vlq, vlqLength}
+use Rattle.vlq.specs.ShortString.{string, shortString}
+use Rattle.types.specs.declared.Address.the-variants.{None}
+use Rattle.handshake.specs.Entry.{version, addressIf, entry}
+use Rattle.messages.specs.Message.{Message, getPeers, peers, modifierRequest, modifierResponse, inv, syncInfo, unknown, count, ids, total, payload, payloads, peersBody, whole, message}
+
+pub record Case : Type 0 where
+  pub cap : ℕ
+  pub code : ℕ
+  pub body : List ℕ
+  pub answer : Answer Message
+
+abbrev case : ℕ → ℕ → List ℕ → Answer Message → Case
+case cap code body answer = record { cap = cap; code = code; body = body; answer = answer }
+
+-- an id: 32 bytes
+abbrev id : List ℕ
+id = replicate 32 0xab
+
+unfoldable pub cases : List Case
+cases =
+    -- Inv: a type byte, a count of at most 400, ids
+    case 64 55 (2 ∷ 0 ∷ []) (got (inv 2 []) 2)
+    ∷ case 64 55 (2 ∷ 0x91 ∷ 0x03 ∷ []) (refused 10)
+    ∷ case 64 55 (2 ∷ 0x90 ∷ 0x03 ∷ []) (refused 1)
+    ∷ case 64 55 [] (refused 1)
+    -- 3 is asked before 10
+    ∷ case 64 55 (2 ∷ 0x80 ∷ 0xa4 ∷ 0xe8 ∷ 0x07 ∷ []) (refused 10)
+    ∷ case 64 55 (2 ∷ 0x81 ∷ 0xa4 ∷ 0xe8 ∷ 0x07 ∷ []) (refused 3)
+    -- an id has 32 bytes; bytes left over are ignored
+    ∷ case 64 55 (2 ∷ 1 ∷ replicate 31 0xab) (refused 1)
+    ∷ case 64 55 (2 ∷ 1 ∷ (id ++ (7 ∷ 7 ∷ []))) (got (inv 2 (record { start = 2; bytes = id } ∷ [])) 34)
+    -- ModifierRequest: the same under its own code
+    ∷ case 64 22 (2 ∷ 1 ∷ id) (got (modifierRequest 2 (record { start = 2; bytes = id } ∷ [])) 34)
+    ∷ case 64 22 (2 ∷ 0x91 ∷ 0x03 ∷ []) (refused 10)
+    -- ModifierResponse: a body of 35 bytes with one payload, declared longer than the body, and as long
+    ∷ case 64 33 (2 ∷ 1 ∷ (id ++ (36 ∷ []))) (refused 11)
+    ∷ case 64 33 (2 ∷ 1 ∷ (id ++ (35 ∷ []))) (refused 1)
+    -- 3 is asked before 11
+    ∷ case 64 33 (2 ∷ 1 ∷ (id ++ (0x81 ∷ 0xa4 ∷ 0xe8 ∷ 0x07 ∷ []))) (refused 3)
+    -- the lengths are added up, the last one included: in a body of 69 bytes a payload of 1 byte, then one declared 69 or 68
+    ∷ case 64 33 (2 ∷ 2 ∷ (id ++ (1 ∷ 7 ∷ (id ++ (69 ∷ []))))) (refused 11)
+    ∷ case 64 33 (2 ∷ 2 ∷ (id ++ (1 ∷ 7 ∷ (id ++ (68 ∷ []))))) (refused 1)
+    ∷ case 64 33 (2 ∷ 1 ∷ (id ++ (1 ∷ 7 ∷ 7 ∷ [])))
+    (got (modifierResponse 2 (record { id = record { start = 2; bytes = id }; body = record { start = 35; bytes = 7 ∷ [] } } ∷ [])) 36)
+    ∷ case 64 33 (2 ∷ 0x91 ∷ 0x03 ∷ []) (refused 10)
+    -- Peers: the cap, which may be above 400
+    ∷ case 64 2 (0 ∷ []) (got (peers []) 1)
+    ∷ case 64 2 (64 ∷ []) (refused 1)
+    ∷ case 64 2 (65 ∷ []) (refused 10)
+    ∷ case 401 2 (0x91 ∷ 0x03 ∷ []) (refused 1)
+    ∷ case 64 2 (0x81 ∷ 0xa4 ∷ 0xe8 ∷ 0x07 ∷ []) (refused 3)
+    ∷ case 64 2 (1 ∷ 0 ∷ 6 ∷ 0 ∷ 1 ∷ 0 ∷ 0 ∷ 0 ∷ 7 ∷ [])
+    (got (peers (record {
+      agent = record { start = 2; bytes = [] };
+      version = record { major = 6; minor = 0; patch = 1 };
+      name = record { start = 6; bytes = [] };
+      address = None;
+      first = 8;
+      features = [];
+    } ∷ [])) 8)
+    -- GetPeers ignores its body; SyncInfo and Unknown are the whole of it
+    ∷ case 64 1 [] (got getPeers 0)
+    ∷ case 64 1 (7 ∷ 7 ∷ []) (got getPeers 0)
+    ∷ case 64 65 (7 ∷ 8 ∷ []) (got (syncInfo (7 ∷ 8 ∷ [])) 2)
+    ∷ case 64 66 (7 ∷ 8 ∷ []) (got (unknown (7 ∷ 8 ∷ [])) 2)
+    ∷ case 64 0 [] (got (unknown []) 0)
+    ∷ []
+
+pub all-cases : map (λ (c : Case). message (c .cap) (c .code) (c .body) 0) cases ≡ map (λ (c : Case). c .answer) cases
+unfolding cases message count ids total payload payloads peersBody whole fold listOf groups vlq vlqLength string shortString utf8From utf8 version addressIf entry
+all-cases = refl
