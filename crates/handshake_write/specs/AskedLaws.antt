@@ -11,9 +11,7 @@ use Rattle.wire.specs.BytesLaws.{Each, none, more, each-append-left, each-appen
 use Rattle.wire.specs.Output.{Question, ask, asked, written}
 use Rattle.wire.specs.declared.Written.{Written}
 use Rattle.wire.specs.declared.Written.the-variants.{To, Refused}
-
-abbrev pub Holds : Question → Type 0
-Holds q = q .holds ≡ true
+use Rattle.handshake.specs.ValueLaws.{Holds}
 
 asked-to : (qs : List Question) (w : Written) (end : ℕ) → asked qs w ≡ To end → Each Holds qs × (w ≡ To end)
 unfolding asked

@@ -1,15 +1,17 @@
--- Document 01, "At the edges", "Messages" and "Questions", Body: what is read of message bodies at the edges.
+-- Document 01, "At the edges", "Messages" and "Questions", Body: what is read of message bodies at the edges, and the code and bytes of each message.
 use Prim.Native.Nat.{ℕ}
-use mathlib.Core.List.{List, [], _∷_, _++_, map}
+use mathlib.Core.List.{List, [], _∷_, _++_, map, flatMap}
 use mathlib.Core.Path.{_≡_, refl}
 use lib.ListN.{replicate}
 use Rattle.wire.specs.Reader.{Answer, got, refused, fold, listOf}
 use Rattle.utf8.specs.Utf8.{utf8From, utf8}
-use Rattle.vlq.specs.Vlq.{groups, vlq, vlqLength}
+use Rattle.vlq.specs.Vlq.{groups, vlq, vlqLength, vlqIn, vlqBytes}
 use Rattle.vlq.specs.ShortString.{string, shortString}
 use Rattle.types.specs.declared.Address.the-variants.{None}
 use Rattle.handshake.specs.Entry.{version, addressIf, entry}
+use Rattle.handshake.specs.Value.{addressBytes, featureBytes, versionBytes, entryBytes}
 use Rattle.messages.specs.Message.{Message, getPeers, peers, modifierRequest, modifierResponse, inv, syncInfo, unknown, count, ids, total, payload, payloads, peersBody, whole, message}
+use Rattle.messages.specs.Value.{MessageValue, getPeersValue, peersValue, modifierRequestValue, modifierResponseValue, invValue, syncInfoValue, unknownValue, codeOf, idsBytes, payloadBytes, bodyBytes}
 
 pub record Case : Type 0 where
   pub cap : ℕ
@@ -77,3 +79,34 @@ cases =
 pub all-cases : map (λ (c : Case). message (c .cap) (c .code) (c .body) 0) cases ≡ map (λ (c : Case). c .answer) cases
 unfolding cases message count ids total payload payloads peersBody whole fold listOf groups vlq vlqLength string shortString utf8From utf8 version addressIf entry
 all-cases = refl
+
+-- ---- a message's code and the bytes of its body
+
+pub record WrittenCase : Type 0 where
+  pub value : MessageValue
+  pub code : ℕ
+  pub body : List ℕ
+
+abbrev written : MessageValue → ℕ → List ℕ → WrittenCase
+written value code body = record { value = value; code = code; body = body }
+
+unfoldable pub writtenCases : List WrittenCase
+writtenCases =
+    written getPeersValue 1 []
+    ∷ written
+    (peersValue (record { agent = []; version = record { major = 6; minor = 0; patch = 1 }; name = []; address = None; features = [] } ∷ []))
+    2 (1 ∷ 0 ∷ 6 ∷ 0 ∷ 1 ∷ 0 ∷ 0 ∷ 0 ∷ [])
+    ∷ written (modifierRequestValue 2 (id ∷ [])) 22 (2 ∷ 1 ∷ id)
+    ∷ written (modifierResponseValue 2 (record { id = id; body = 7 ∷ [] } ∷ [])) 33 (2 ∷ 1 ∷ (id ++ (1 ∷ 7 ∷ [])))
+    ∷ written (invValue 2 []) 55 (2 ∷ 0 ∷ [])
+    ∷ written (syncInfoValue (7 ∷ 8 ∷ [])) 65 (7 ∷ 8 ∷ [])
+    ∷ written (unknownValue 66 (7 ∷ 8 ∷ [])) 66 (7 ∷ 8 ∷ [])
+    ∷ []
+
+pub all-codes : map (λ (c : WrittenCase). codeOf (c .value)) writtenCases ≡ map (λ (c : WrittenCase). c .code) writtenCases
+unfolding writtenCases codeOf
+all-codes = refl
+
+pub all-bodies : map (λ (c : WrittenCase). bodyBytes (c .value)) writtenCases ≡ map (λ (c : WrittenCase). c .body) writtenCases
+unfolding writtenCases bodyBytes idsBytes payloadBytes vlqIn vlqBytes flatMap addressBytes featureBytes versionBytes entryBytes
+all-bodies = refl

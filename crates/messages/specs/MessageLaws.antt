@@ -4,17 +4,17 @@ use native.Mathlib.Nat.{zero-add}
 use native.Mathlib.Omega.{arith}
 use mathlib.Core.Bool.{Bool, true, false, not, _&&_}
 use mathlib.Core.List.{List, [], _∷_, _++_, map, flatMap}
-use mathlib.Core.Path.{_≡_, refl, ap, ap₂, sym, _∙_}
+use mathlib.Core.Path.{_≡_, refl, ap, ap₂, _∙_}
 use lib.Dec.{eqb, leb}
 use lib.ListN.{length, length-append}
 use borrow.Author.Tests.{le-leb, leb-true, not-true}
 use Rattle.wire.specs.BytesLaws.{Each, none, more, each-between, each-append-left, each-append-right, every-each, and-true, length-flatMap-cons}
 use Rattle.wire.specs.ListLaws.{reads-listOf, reads-each}
-use Rattle.wire.specs.Output.{Question, ask}
-use Rattle.wire.specs.Reader.{got, Reader, pure, andThen, guard, byte, Segment, part, listOf}
+use Rattle.wire.specs.Output.{ask}
+use Rattle.wire.specs.Reader.{got, Reader, pure, andThen, byte, Segment, part, listOf}
 use Rattle.wire.specs.ReadsBack.{ReadsBack}
 use Rattle.wire.specs.ReadsBackLaws.{bytesOf, stands-whole, reads-pure, reads-guard, reads-then, reads-last, reads-byte, reads-part, reads-part-of}
-use Rattle.vlq.specs.Vlq.{limit, vlqLength, vlqBytes}
+use Rattle.vlq.specs.Vlq.{limit, vlqBytes}
 use Rattle.vlq.specs.VlqLaws.{reads-vlqLength}
 use Rattle.handshake.specs.Value.{EntryValue, entryBytes, entriesAsked}
 use Rattle.handshake.specs.AddressLaws.{AddressTyped}
@@ -78,11 +78,11 @@ total-within (p ∷ ps) =
     )
 
 -- what a payload must be to be read back
-record PayloadKept (p : PayloadValue) : Type 0 where
+record WritablePayload (p : PayloadValue) : Type 0 where
   id : length (p .id) ≡ 32
   body : length (p .body) ≤ limit
 
-reads-payload : (size : ℕ) (before : List Payload) (p : PayloadValue) → total before + length (p .body) ≤ size → PayloadKept p
+reads-payload : (size : ℕ) (before : List Payload) (p : PayloadValue) → total before + length (p .body) ≤ size → WritablePayload p
     → ReadsBack (payload size before) payloadValue (payloadBytes p) p
 unfolding payload payloadBytes payloadValue
 reads-payload size before p fits h =
@@ -92,7 +92,7 @@ reads-payload size before p fits h =
     (reads-last (reads-part (p .body)) (λ body g.
     reads-pure (record { id = id; body = body }) (ap₂ {C = PayloadValue} (λ (a b : List ℕ). record { id = a; body = b }) f g)))))))
 
-reads-payloads : (code size type : ℕ) (ps : List PayloadValue) → totalValue ps ≤ size → length ps ≤ maxInvObjects → Each PayloadKept ps
+reads-payloads : (code size type : ℕ) (ps : List PayloadValue) → totalValue ps ≤ size → length ps ≤ maxInvObjects → Each WritablePayload ps
     → ReadsBack (payloads size) (messageValue code) (type ∷ (vlqBytes (length ps) ++ flatMap payloadBytes ps)) (modifierResponseValue type ps)
 unfolding payloads messageValue totalValue
 reads-payloads code size type ps fits few kept =
@@ -138,19 +138,19 @@ reads-unknown cap code s h =
 -- ---- any message
 
 -- the ids, each of which is to have 32 bytes
-unfoldable pub idsOf : MessageValue → List (List ℕ)
-idsOf (modifierRequestValue type ids) = ids
-idsOf (modifierResponseValue type ps) = map (λ (p : PayloadValue). p .id) ps
-idsOf (invValue type ids) = ids
-idsOf getPeersValue = []
-idsOf (peersValue es) = []
-idsOf (syncInfoValue body) = []
-idsOf (unknownValue code body) = []
+unfoldable pub idsIn : MessageValue → List (List ℕ)
+idsIn (modifierRequestValue type ids) = ids
+idsIn (modifierResponseValue type ps) = map (λ (p : PayloadValue). p .id) ps
+idsIn (invValue type ids) = ids
+idsIn getPeersValue = []
+idsIn (peersValue es) = []
+idsIn (syncInfoValue body) = []
+idsIn (unknownValue code body) = []
 
--- a message to which a writer answers none of its questions from 13 on with "no", with ids of 32 bytes and addresses whose numbers have their type
+-- a message of which all questions of a writer from 13 on hold, with ids of 32 bytes, and addresses whose numbers are in the range of their types
 pub record WritableMessage (cap : ℕ) (v : MessageValue) : Type 0 where
   pub asked : Each Holds (messageAsked cap v)
-  pub ids : Each (λ id. length id ≡ 32) (idsOf v)
+  pub ids : Each (λ id. length id ≡ 32) (idsIn v)
   pub addresses : Each (λ e. AddressTyped (e .address)) (entriesOf v)
 
 -- the body of v is read whole, to a message whose value is v
@@ -159,6 +159,7 @@ pub record ReadAs (cap : ℕ) (v : MessageValue) : Type 0 where
   pub reads : message cap (codeOf v) (bodyBytes v) 0 ≡ got reading (length (bodyBytes v))
   pub value : messageValue (codeOf v) reading ≡ v
 
+-- the questions one by one
 record Answered (cap : ℕ) (v : MessageValue) : Type 0 where
   entries : Each Holds (entriesAsked (entriesOf v))
   payloads : payloadsWithin v ≡ true
@@ -171,8 +172,8 @@ unfolding messageAsked
 answered cap v h = go (each-append-left (entriesAsked (entriesOf v)) _ h) (each-append-right (entriesAsked (entriesOf v)) _ h)
   where
     go : Each Holds (entriesAsked (entriesOf v))
-      → Each Holds (ask 3 (payloadsWithin v) ∷ ask 10 (countWithin cap v) ∷ ask 7 (leb (length (bodyBytes v)) limit) ∷ ask 15 (codeFree v) ∷ [])
-      → Answered cap v
+        → Each Holds (ask 3 (payloadsWithin v) ∷ ask 10 (countWithin cap v) ∷ ask 7 (leb (length (bodyBytes v)) limit) ∷ ask 15 (codeFree v) ∷ [])
+        → Answered cap v
     go es (more p (more c (more b (more f none)))) =
         record { entries = es; payloads = p; count = c; body = leb-true (length (bodyBytes v)) limit b; code = f }
 
@@ -183,14 +184,14 @@ read-as cap v {p} r e =
     let b = r .reads (bodyBytes v) 0 (stands-whole (bodyBytes v)) in
     record { reading = b .0; reads = e ∙ b .1 ∙ ap (got (b .0)) (zero-add (length (bodyBytes v))); value = b .2 }
 
-kept-payloads : (ps : List PayloadValue) → Each (λ p. leb (length (p .body)) limit ≡ true) ps
-    → Each (λ id. length id ≡ 32) (map (λ (p : PayloadValue). p .id) ps) → Each PayloadKept ps
-kept-payloads [] none none = none
-kept-payloads (p ∷ ps) (more w ws) (more l ls) = more (record { id = l; body = leb-true (length (p .body)) limit w }) (kept-payloads ps ws ls)
+writable-payloads : (ps : List PayloadValue) → Each (λ p. leb (length (p .body)) limit ≡ true) ps
+    → Each (λ id. length id ≡ 32) (map (λ (p : PayloadValue). p .id) ps) → Each WritablePayload ps
+writable-payloads [] none none = none
+writable-payloads (p ∷ ps) (more w ws) (more l ls) = more (record { id = l; body = leb-true (length (p .body)) limit w }) (writable-payloads ps ws ls)
 
 -- every message that can be written is read back
 pub reads-message : (cap : ℕ) (v : MessageValue) → WritableMessage cap v → ReadAs cap v
-unfolding message codeOf bodyBytes messageValue entriesOf idsOf payloadsWithin countWithin codeFree whole
+unfolding message codeOf bodyBytes messageValue entriesOf idsIn payloadsWithin countWithin codeFree whole
 reads-message cap getPeersValue h = record { reading = getPeers; reads = refl; value = refl }
 reads-message cap (peersValue es) h =
     let a = answered cap (peersValue es) (h .asked) in
@@ -206,7 +207,7 @@ reads-message cap (modifierResponseValue type ps) h =
     (reads-payloads 33 (length (bodyBytes (modifierResponseValue type ps))) type ps
     (omega (arith, total-within ps, length-append (vlqBytes (length ps)) (flatMap payloadBytes ps)))
     (leb-true (length ps) maxInvObjects (a .count))
-    (kept-payloads ps (every-each (λ p. leb (length (p .body)) limit) ps (a .payloads)) (h .ids)))
+    (writable-payloads ps (every-each (λ p. leb (length (p .body)) limit) ps (a .payloads)) (h .ids)))
     refl
 reads-message cap (invValue type l) h =
     let few = leb-true (length l) maxInvObjects (answered cap (invValue type l) (h .asked) .count) in

@@ -1,1 +1,1 @@
-// Message bodies, read from lent bytes (protocol/messages.rs).
+// Message bodies: their definitions and laws, in specs/. Writers stand in messages_write.

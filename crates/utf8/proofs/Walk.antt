@@ -1,8 +1,8 @@
 -- Where the loop of is_utf8 stands, and one law for each way through a turn and out of it.
 -- The idea: what utf8 says of all the bytes is what utf8From says of the rest, with the followers that are still due.
-use Prim.Native.Nat.{ℕ, zero, suc, _+_, _-_, _≤_, _<_}
-use mathlib.Core.Bool.{Bool, true, false}
-use mathlib.Core.List.{List, [], _∷_}
+use Prim.Native.Nat.{ℕ, suc, _+_, _-_, _≤_, _<_}
+use mathlib.Core.Bool.{false}
+use mathlib.Core.List.{List, _∷_}
 use mathlib.Core.Path.{_≡_, refl, ap, sym, _∙_}
 use native.Mathlib.Numerals.{add-one}
 use native.Mathlib.Omega.{arith}
@@ -56,11 +56,11 @@ module _ {s : List ℕ} {at left low high : ℕ} (stands : Stands s at left low 
     pub at-follower : low ≤ getD s at 0 → getD s at 0 ≤ high → Stands s (at + 1) (left - 1) 0x80 0xbf
     unfolding utf8From
     at-follower l h =
-        record
-        { inside = omega arith
-        ; same =
-            byte-next ∙ ap (λ (n : ℕ). utf8From (getD s at 0 ∷ drop (at + 1) s) n low high) one-less
-            ∙ rw (le-leb low (getD s at 0) l, le-leb (getD s at 0) high h)
+        record {
+          inside = omega arith;
+          same =
+              byte-next ∙ ap (λ (n : ℕ). utf8From (getD s at 0 ∷ drop (at + 1) s) n low high) one-less
+              ∙ rw (le-leb low (getD s at 0) l, le-leb (getD s at 0) high h);
         }
 
 pub at-end : {s : List ℕ} {at left low high : ℕ} → Stands s at left low high → length s ≤ at → eqb left 0 ≡ utf8 s

@@ -1,11 +1,10 @@
--- Laws of utf8: no bytes are UTF-8, and after UTF-8 the rest alone decides.
+-- Laws of utf8: the empty list is UTF-8, and of bytes that begin with UTF-8 the rest decides.
 use Prim.Native.Nat.{ℕ, zero, suc}
-use mathlib.Core.Bool.{Bool, true, false, _&&_}
+use mathlib.Core.Bool.{Bool, true, false, _&&_, false≢true}
 use mathlib.Core.List.{List, [], _∷_, _++_}
-use mathlib.Core.Path.{_≡_, refl, ap, sym, _∙_}
-use native.Mathlib.Omega.{arith}
+use mathlib.Core.Path.{_≡_, refl, ap, _∙_}
 use borrow.Author.Tests.{eqb-true}
-use lib.Dec.{leb, eqb}
+use lib.Dec.{leb}
 use Rattle.utf8.specs.declared.Lead.{Lead}
 use Rattle.utf8.specs.declared.Lead.the-variants.{Followers, Bad}
 use Rattle.utf8.specs.Utf8.{leadOf, afterLead, utf8From, utf8}
@@ -20,14 +19,14 @@ unfolding utf8From
 none-due [] low high low′ high′ = refl
 none-due (b ∷ bs) low high low′ high′ = refl
 
-and-true : (t u : Bool) → t && u ≡ true → (t ≡ true) × (u ≡ true)
+pub and-true : (t u : Bool) → t && u ≡ true → (t ≡ true) × (u ≡ true)
 and-true true u e = (refl, e)
-and-true false u e = let z : _≡_ {A = ℕ} 0 1 = cc in absurd (omega arith)
+and-true false u e = absurd (false≢true e)
 
 after-append : (v : Lead) (f g : ℕ → ℕ → ℕ → Bool) (r : Bool) → ((n low high : ℕ) → f n low high ≡ true → g n low high ≡ r)
     → afterLead v f ≡ true → afterLead v g ≡ r
 after-append (Followers n low high) f g r ih e = ih n low high e
-after-append Bad f g r ih e = let z : _≡_ {A = ℕ} 0 1 = cc in absurd (omega arith)
+after-append Bad f g r ih e = absurd (false≢true e)
 
 from-append : (xs ys : List ℕ) (n low high : ℕ) → utf8From xs n low high ≡ true → utf8From (xs ++ ys) n low high ≡ utf8 ys
 unfolding utf8 utf8From

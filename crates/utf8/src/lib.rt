@@ -37,6 +37,7 @@ pub fn is_utf8(s: &[u8]) -> bool
         let b = s[at];
         at += 1;
         if left == 0 {
+            // a byte up to 0x7F stands alone
             if 0x7F < b {
                 match lead_of(b) {
                     Lead::Followers(n, a, z) => {

@@ -25,11 +25,10 @@ use Rattle.walk.specs.WrittenSession.{Write, Value, writeValue, fieldsVa
 -- ---- what the writers must keep
 
 module _ (network : Network) (cap : ℕ) where
-  -- the write's bytes, standing at a place, are opened as an item of the write's value that ends where they end
-  abbrev pub OpensTo : Write → List ℕ → ℕ → Type 0
-  OpensTo w s at =
-      (c : Content) × (openAt Content (handshakeAt network) (messageAt network cap) s at ≡ opened c (at + length (writeBytes network cap w)))
-      × (fieldsValue (c .fields) ≡ writeValue w)
+  -- the bytes bs at a place are opened as an item of the value v that ends where they end
+  abbrev pub Opens : List ℕ → Value → List ℕ → ℕ → Type 0
+  Opens bs v s at =
+      (c : Content) × (openAt Content (handshakeAt network) (messageAt network cap) s at ≡ opened c (at + length bs)) × (fieldsValue (c .fields) ≡ v)
 
 pub record WriterLaws (network : Network) (cap : ℕ) : Type 0 where
   -- an accepted write ends where its bytes end, within the output
@@ -37,7 +36,8 @@ pub record WriterLaws (network : Network) (cap : ℕ) : Type 0 where
       → (end ≡ at + length (writeBytes network cap w)) × (end ≤ length out)
   -- whatever stands around them, its bytes are read back: a handshake's at place 0, a message's at any other
   pub reads : (w : Write) (out : List ℕ) (at end : ℕ) → Typed w → said network cap w out at ≡ To end
-      → (s : List ℕ) (p : ℕ) → isHandshake w ≡ eqb p 0 → StandsAt s p (writeBytes network cap w) → OpensTo network cap w s p
+      → (s : List ℕ) (p : ℕ) → isHandshake w ≡ eqb p 0 → StandsAt s p (writeBytes network cap w)
+      → Opens network cap (writeBytes network cap w) (writeValue w) s p
 
 module _ (network : Network) (cap least : ℕ) (readers : ReaderLaws Content (handshakeAt network) (messageAt network cap) least)
     (writers : WriterLaws network cap) where
@@ -107,7 +107,8 @@ module _ (network : Network) (cap least : ℕ) (readers : ReaderLaws Content (ha
   reads-item v vs at c end r e h = record { values = rw e (ap (λ (l : List Value). v ∷ l) (h .values)); ending = h .ending }
 
   -- one write's bytes at a place, and then the others'
-  reads-write : (w : Write) (ws : List Write) (s : List ℕ) (at : ℕ) → at ≤ length s → OpensTo network cap w s at → StandsAt s at (writeBytes network cap w)
+  reads-write : (w : Write) (ws : List Write) (s : List ℕ) (at : ℕ) → at ≤ length s
+      → Opens network cap (writeBytes network cap w) (writeValue w) s at → StandsAt s at (writeBytes network cap w)
       → (at < at + length (writeBytes network cap w) → ReadsAs (map writeValue ws) (Walk s (at + length (writeBytes network cap w))))
       → ReadsAs (map writeValue (w ∷ ws)) (Walk s at)
   reads-write w ws s at h (c, q, v) g rest =

@@ -1,1 +1,5 @@
 pub mod Zigzag
+pub mod Width
+pub mod WidthLaws
+pub mod ZigzagLaws
+pub mod Cases

@@ -5,10 +5,10 @@ use lib.Dec.{eqb}
 use lib.IntN.{ℤ, pos, negℤ, natAbs}
 use lib.Signed.{nonNeg}
 
--- n at or above 0 becomes 2n, below 0 becomes -2n - 1; `natAbs n` is n above 0 and -n below
+-- n at or above 0 becomes 2n, below 0 becomes -2n - 1; `natAbs n` is the absolute value, which below 0 is -n
 unfoldable pub zigzagEncode : ℤ → ℕ
 zigzagEncode n = cond (nonNeg n) (2 * natAbs n) (2 * natAbs n - 1)
 
--- decoding undoes it: an even m comes from m / 2, an odd m from -(m + 1) / 2
+-- decoding undoes it: an even m is 2n for n = m / 2, an odd m is -2n - 1 for n = -(m + 1) / 2
 unfoldable pub zigzagDecode : ℕ → ℤ
 zigzagDecode m = cond (eqb (m % 2) 0) (pos (m / 2)) (negℤ (pos ((m + 1) / 2)))

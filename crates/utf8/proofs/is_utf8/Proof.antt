@@ -14,6 +14,9 @@ Inv-loop s at₀ left₀ low₀ high₀ at left low high = Stands s at left low 
 abbrev μ-loop : tie.MeasureT-loop
 μ-loop s at₀ left₀ low₀ high₀ at left low high = length s - at
 
+loop-holds : tie.Need-loop-holds Inv-loop μ-loop
+loop-holds c = at-start _
+
 loop-again : tie.Need-loop-again Inv-loop μ-loop
 loop-again c =
     let t = c .before .before .before .before .before in
@@ -54,7 +57,7 @@ is-utf8-spec =
     (tie.spec
     Inv-loop
     μ-loop
-    (λ c. at-start _)
+    loop-holds
     (λ c. omega arith)
     (λ c. omega arith)
     (λ c κs. tt)

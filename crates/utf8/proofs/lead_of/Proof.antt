@@ -8,8 +8,6 @@ use Rattle.utf8.specs.Utf8.{rows, leadIn, leadOf}
 use Rattle.utf8.proofs.Leads.{lead-range, lead-ascii}
 use Rattle.utf8.proofs.lead_of.Statement.{statement}
 use Rattle.utf8.proofs.lead_of.Tie as tie
-use Rattle.utf8.proofs.lead_of.Reads as reads
-use Rattle.utf8.proofs.lead_of.Lts as lts
 
 returns : tie.Need-returns
 unfolding leadOf leadIn rows
