@@ -7,21 +7,29 @@ use lib.Bits.{bitXor}
 use lib.ListN.{length, getD, set, take, drop, replicate}
 
 infixl 90 _!_
+infixl 65 _>>_ _<<_ _>>>_
 infixl 60 _⊕_
-infixl 65 _>>_
-infixl 65 _<<_
-infixl 65 _>>>_
-
--- 2.1: bits in a word, rounds in F, bytes in a block, and the rotations of G
+-- 2.1: bits in a word
 abbrev pub w : ℕ
 w = 64
 
+-- 2.1: rounds in F
 abbrev pub r : ℕ
 r = 12
 
+-- 2.1: bytes in a block
 abbrev pub bb : ℕ
 bb = 128
 
+-- 2.1: bytes of the key: none
+abbrev pub kk : ℕ
+kk = 0
+
+-- 2.1: an input has fewer bytes than this
+unfoldable pub limit : ℕ
+limit = 2 ^ 128
+
+-- 2.1: the rotations of G
 abbrev pub R1 : ℕ
 R1 = 32
 
@@ -34,10 +42,11 @@ R3 = 16
 abbrev pub R4 : ℕ
 R4 = 63
 
--- 2.3: a ^ b, x >> n, x << n and x >>> n; v[i], which is 0 past the end of v; FOR i = 0 TO n - 1 DO x := f i x
+-- 2.3: a ^ b, bit by bit
 abbrev pub _⊕_ : ℕ → ℕ → ℕ
 _⊕_ a b = bitXor a b
 
+-- 2.3: x >> n, x << n and x >>> n
 abbrev pub _>>_ : ℕ → ℕ → ℕ
 _>>_ x n = x / 2 ^ n
 
@@ -47,9 +56,11 @@ _<<_ x n = (x * 2 ^ n) % 2 ^ w
 unfoldable pub _>>>_ : ℕ → ℕ → ℕ
 _>>>_ x n = (x >> n) ⊕ (x << (w - n))
 
+-- v[i]
 abbrev pub _!_ : List ℕ → ℕ → ℕ
 _!_ v i = getD v i 0
 
+-- FOR i = 0 TO n - 1 DO x := f i x
 unfoldable pub for : {A : Type 0} → ℕ → (ℕ → A → A) → A → A
 for zero f x = x
 for (suc n) f x = f n (for n f x)
@@ -72,11 +83,11 @@ unfoldable pub unwords : List ℕ → List ℕ
 unwords [] = []
 unwords (x ∷ xs) = bytes 8 x ++ unwords xs
 
--- 2.5: the parameter block's first word, 0x0101kknn with kk = 0; its other words are 0
+-- 2.5: p[0] of the parameter block, 0x0101kknn; its other words are 0
 unfoldable pub p : ℕ → ℕ
-p nn = 0x01010000 ⊕ nn
+p nn = 0x01010000 ⊕ (kk << 8) ⊕ nn
 
--- 2.6
+-- 2.6: the initialization vector
 unfoldable pub IV : List ℕ
 IV =
     0x6a09e667f3bcc908 ∷
@@ -89,7 +100,7 @@ IV =
     0x5be0cd19137e2179 ∷
     []
 
--- 2.7
+-- 2.7: the message word schedule; rounds 10 and 11 take rows 0 and 1 again
 unfoldable pub SIGMA : List (List ℕ)
 SIGMA =
     (0 ∷ 1 ∷ 2 ∷ 3 ∷ 4 ∷ 5 ∷ 6 ∷ 7 ∷ 8 ∷ 9 ∷ 10 ∷ 11 ∷ 12 ∷ 13 ∷ 14 ∷ 15 ∷ []) ∷
@@ -144,7 +155,7 @@ F h m t f =
     let v : List ℕ = for r (round m) v in
     for 8 (λ i h. set h i (h ! i ⊕ v ! i ⊕ v ! (i + 8))) h
 
--- 3.3: the number of blocks of ll bytes; data of no bytes is one block
+-- 3.3: the number of blocks of ll bytes, rounded up; an empty input is one block
 unfoldable pub dd : ℕ → ℕ
 dd ll = max 1 ((ll + bb - 1) / bb)
 
@@ -152,11 +163,11 @@ dd ll = max 1 ((ll + bb - 1) / bb)
 unfoldable pub d : List ℕ → ℕ → List ℕ
 d input i = words 16 (drop (i * bb) input ++ replicate bb 0)
 
--- 3.3: the state before the first block, for nn bytes of output
+-- 3.3: h[0..7] := IV[0..7], h[0] := h[0] ^ p[0], for nn bytes of output
 unfoldable pub h0 : ℕ → List ℕ
 h0 nn = set IV 0 (IV ! 0 ⊕ p nn)
 
--- 3.3: BLAKE2b of the data, with nn bytes of output and no key
+-- 3.3: BLAKE2b of the input, with nn bytes of output and no key
 unfoldable pub blake2b : ℕ → List ℕ → List ℕ
 blake2b nn input =
     let ll : ℕ = length input in

@@ -1,1 +1,121 @@
-// BLAKE2b
+// BLAKE2b with 32 bytes of output and no key (RFC 7693).
+ghost use mathlib.Core.Path.{_≡_};
+ghost use Prim.Native.Nat.{_+_, _-_, _*_, _/_, _%_, _^_, _≤_};
+ghost use lib.ListN.{length};
+ghost use Rattle.blake2b.specs.Blake2b.{dd, blake2b256, check as Blake2b·check};
+ghost use Rattle.blake2b.specs.Running.{started, advanced, stepped, absorbed, ended, finished};
+
+mod bytes;
+mod compression;
+mod schedule;
+
+pub use compression::compress;
+
+// A running hash: the state h, and the low and high word of the offset counter t.
+pub struct Hash {
+    pub h: [u64; 8],
+    pub t0: u64,
+    pub t1: u64,
+}
+
+impl Hash {
+    // The hash before the first block.
+    pub fn start() -> Self
+        ensures { λ r. ⌜ r ≡ started 32 ⌝ }
+    {
+        let mut h = compression::iv();
+        h[0] = h[0] ^ 0x0101_0020;
+        Hash { h, t0: 0, t1: 0 }
+    }
+
+    // The hash after a whole block that is not the last.
+    pub fn step(self, block: &[u8; 128]) -> Self
+        ensures { λ r. ⌜ r ≡ stepped self (now (block .entry)) ⌝ }
+    {
+        let m = bytes::load(block, 0);
+        advance(self, &m)
+    }
+
+    // The digest of what was absorbed and the rest, whose blocks before its last are absorbed here. An empty rest
+    // is one block of zero bytes: that is the RFC's digest only where nothing was absorbed before.
+    pub fn finish(self, rest: &[u8]) -> [u8; 32]
+        ensures { λ r. ⌜ r ≡ finished 32 self (now (rest .entry)) ⌝ }
+    {
+        let n = before_last(rest.len());
+        let x = absorb(self, rest, n);
+        let h = last(x, rest, n);
+        bytes::unload(h)
+    }
+}
+
+pub fn digest(s: &[u8]) -> [u8; 32]
+    ensures { λ r. ⌜ r ≡ blake2b256 (now (s .entry)) ⌝ }
+{
+    Hash::start().finish(s)
+}
+
+// The check of a frame: the first four bytes of its body's digest.
+pub fn check(s: &[u8]) -> [u8; 4]
+    ensures { λ r. ⌜ r ≡ Blake2b·check (now (s .entry)) ⌝ }
+{
+    let d = digest(s);
+    [d[0], d[1], d[2], d[3]]
+}
+
+// The hash after the words of a block that is not the last.
+fn advance(x: Hash, m: &[u64; 16]) -> Hash
+    ensures { λ r. ⌜ r ≡ advanced x (now (m .entry)) ⌝ }
+{
+    let h = x.h;
+    let t0 = std::num::wrapping_add_u64(x.t0, 128);
+    let t1 = high(x.t0, x.t1, 128);
+    let w = compress(h, m, t0, t1, false);
+    Hash { h: w, t0, t1 }
+}
+
+// The high word of the counter, n bytes further: one more where the low word wraps.
+fn high(t0: u64, t1: u64, n: u64) -> u64
+    ensures { λ r. ⌜ r ≡ (t1 + (t0 + n) / 2 ^ 64) % 2 ^ 64 ⌝ }
+{
+    if std::num::wrapping_add_u64(t0, n) < n {
+        std::num::wrapping_add_u64(t1, 1)
+    } else {
+        t1
+    }
+}
+
+// How many blocks of n bytes stand before the last.
+fn before_last(n: usize) -> usize
+    ensures { λ r. ⌜ r ≡ dd n - 1 ⌝ }
+{
+    if n == 0 { 0 } else { (n - 1) / 128 }
+}
+
+// The hash after the first n blocks of s, none of which is the last.
+fn absorb(x: Hash, s: &[u8], n: usize) -> Hash
+    requires { ⌜ n * 128 ≤ length (now s) ⌝ }
+    ensures { λ r. ⌜ r ≡ absorbed x (now (s .entry)) n ⌝ }
+{
+    let mut y = x;
+    for i in 0..n {
+        let m = bytes::load(s, i * 128);
+        let z = advance(y, &m);
+        y = z;
+    }
+    y
+}
+
+// The state after the last block of s, its block i.
+fn last(x: Hash, s: &[u8], i: usize) -> [u64; 8]
+    requires { ⌜ (i * 128 ≤ length (now s)) × (length (now s) ≤ i * 128 + 128) ⌝ }
+    ensures { λ r. ⌜ r ≡ ended x (now (s .entry)) i ⌝ }
+{
+    let at = i * 128;
+    let h = x.h;
+    let n = (s.len() - at) as u64;
+    let t0 = std::num::wrapping_add_u64(x.t0, n);
+    let t1 = high(x.t0, x.t1, n);
+    let b = bytes::padded(s, at);
+    let m = bytes::load(&b, 0);
+    compress(h, &m, t0, t1, true)
+}

@@ -1,4 +1,4 @@
 pub mod Tables
 pub mod Writes
-pub mod AskedLaws
 pub mod TablesLaws
+pub mod WritesLaws

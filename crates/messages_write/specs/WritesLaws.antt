@@ -1,49 +1,96 @@
--- What an accepted message tells: its body is within the limit, each id has 32 bytes, and the address of each entry has the numbers of its type.
+-- A message whose write was accepted is read back: every question held, so its body is within the limit, its ids have 32 bytes and its addresses have the
+-- numbers of their type.
 use Prim.Native.Nat.{ℕ, _≤_}
 use mathlib.Core.Bool.{true}
-use mathlib.Core.List.{List, [], _∷_, map}
-use mathlib.Core.Path.{_≡_}
-use lib.Dec.{leb}
+use mathlib.Core.List.{List, map}
+use mathlib.Core.Path.{_≡_, refl}
 use lib.ListN.{length}
 use borrow.Author.Tests.{leb-true}
 use Rattle.wire.specs.Bytes.{every}
 use Rattle.wire.specs.BytesLaws.{and-true, Each, none, more, every-each, each-both, each-append-right, each-first, each-rest, isByte}
+use Rattle.wire.specs.OutputLaws.{written-accepted}
+use Rattle.wire.specs.declared.Written.the-variants.{To}
 use Rattle.vlq.specs.Vlq.{limit}
+use Rattle.types.specs.declared.Network.{Network}
 use Rattle.handshake.specs.AddressLaws.{AddressTyped}
 use Rattle.handshake.specs.Value.{EntryValue, entriesAsked}
 use Rattle.handshake.specs.ValueLaws.{Holds}
 use Rattle.handshake_write.specs.Tables.{Lent, entryRows, bytesAt, entryOf, entriesOf, tablesWhole, entryNumbers, inside, entryInside}
 use Rattle.handshake_write.specs.TablesLaws.{length-bytesAt, whole-entries, row-address}
+use Rattle.handshake_write.specs.WritesLaws.{hold-each}
+use Rattle.messages.specs.MessageLaws.{idsIn, WritableMessage, ReadAs, reads-message}
 use Rattle.messages.specs.Value as Values
 use Rattle.messages.specs.Value.{PayloadValue, MessageValue, bodyBytes, messageAsked}
-use Rattle.messages_write.specs.Writes.{idPlaces, idsOf, payloadRows, payloadOf, payloadInside}
+use Rattle.messages_write.specs.Writes.{idPlaces, idsOf, payloadRows, payloadOf, payloadInside, MessageWrite, writeGetPeers, writePeers, writeModifierRequest, writeModifierResponse, writeInv, writeSyncInfo, writeUnknown, valueOf, messageWhole, messageInside, messageWritten}
 
--- 7
-pub body-within : (cap : ℕ) (v : MessageValue) → Each Holds (messageAsked cap v) → length (bodyBytes v) ≤ limit
-unfolding messageAsked
-body-within cap v h =
-    leb-true (length (bodyBytes v)) limit (each-first (each-rest (each-rest (each-append-right (entriesAsked (Values.entriesOf v)) _ h))))
+-- ---- rows
 
 each-map : {A B : Type 0} {P : A → Type 0} {Q : B → Type 0} (f : A → B) → ((a : A) → P a → Q (f a)) → {l : List A} → Each P l → Each Q (map f l)
 each-map f h none = none
 each-map f h (more {a = a} p ps) = more (h a p) (each-map f h ps)
 
-pub ids-long : (t buffer : List ℕ) → every (λ at. inside buffer at 32) (idPlaces t) ≡ true → Each (λ id. length id ≡ 32) (idsOf t buffer)
+ids-long : (t buffer : List ℕ) → every (λ at. inside buffer at 32) (idPlaces t) ≡ true → Each (λ id. length id ≡ 32) (idsOf t buffer)
 unfolding idsOf
 ids-long t buffer h =
-    each-map {P = λ at. inside buffer at 32 ≡ true} (λ at. bytesAt buffer at 32) (λ at i. length-bytesAt buffer at 32 i) (every-each (λ at. inside buffer at 32) (idPlaces t) h)
+    each-map {P = λ at. inside buffer at 32 ≡ true} (λ at. bytesAt buffer at 32) (λ at i. length-bytesAt buffer at 32 i)
+    (every-each (λ at. inside buffer at 32) (idPlaces t) h)
 
-pub payload-ids-long : (t buffer : List ℕ) → every (payloadInside buffer) (payloadRows t) ≡ true
+payload-ids-long : (t buffer : List ℕ) → every (payloadInside buffer) (payloadRows t) ≡ true
     → Each (λ id. length id ≡ 32) (map (λ (p : PayloadValue). p .id) (map (payloadOf buffer) (payloadRows t)))
 unfolding payloadInside payloadOf
 payload-ids-long t buffer h =
     each-map {P = λ (p : PayloadValue). length (p .id) ≡ 32} (λ (p : PayloadValue). p .id) (λ p e. e)
-    (each-map {P = λ r. payloadInside buffer r ≡ true} (payloadOf buffer) (λ r i. length-bytesAt buffer (r .id) 32 (and-true (inside buffer (r .id) 32) _ i .0))
+    (each-map {P = λ r. payloadInside buffer r ≡ true} (payloadOf buffer)
+    (λ r i. length-bytesAt buffer (r .id) 32 (and-true (inside buffer (r .id) 32) _ i .0))
     (every-each (payloadInside buffer) (payloadRows t) h))
 
-pub entries-addresses : (l : Lent) → every isByte (l .buffer) ≡ true → tablesWhole l ≡ true → every (entryInside l) (entryRows l) ≡ true
+entries-addresses : (l : Lent) → every isByte (l .buffer) ≡ true → tablesWhole l ≡ true → every (entryInside l) (entryRows l) ≡ true
     → Each (λ (e : EntryValue). AddressTyped (e .address)) (entriesOf l)
 unfolding entriesOf
 entries-addresses l typed whole parts =
     each-map {P = λ r. AddressTyped (entryOf l r .address)} (entryOf l) (λ r h. h)
-    (each-both (λ r x y. row-address l r x y typed) (every-each entryNumbers (entryRows l) (whole-entries l whole)) (every-each (entryInside l) (entryRows l) parts))
+    (each-both (λ r x y. row-address l r x y typed) (every-each entryNumbers (entryRows l) (whole-entries l whole))
+    (every-each (entryInside l) (entryRows l) parts))
+
+-- ---- any message
+
+-- the bytes of the buffer that entries are written from are bytes
+abbrev pub PeersTyped : MessageWrite → Type 0
+PeersTyped w = (l : Lent) → w ≡ writePeers l → every isByte (l .buffer) ≡ true
+
+message-ids : (w : MessageWrite) → messageInside w ≡ true → Each (λ id. length id ≡ 32) (idsIn (valueOf w))
+unfolding messageInside valueOf idsIn
+message-ids writeGetPeers inside = none
+message-ids (writePeers l) inside = none
+message-ids (writeModifierRequest type ids buffer) inside = ids-long ids buffer inside
+message-ids (writeModifierResponse type payloads buffer) inside = payload-ids-long payloads buffer inside
+message-ids (writeInv type ids buffer) inside = ids-long ids buffer inside
+message-ids (writeSyncInfo body) inside = none
+message-ids (writeUnknown code body) inside = none
+
+message-addresses : (w : MessageWrite) → PeersTyped w → messageWhole w ≡ true → messageInside w ≡ true
+    → Each (λ (e : EntryValue). AddressTyped (e .address)) (Values.entriesOf (valueOf w))
+unfolding messageWhole messageInside valueOf Values.entriesOf
+message-addresses writeGetPeers typed whole inside = none
+message-addresses (writePeers l) typed whole inside = entries-addresses l (typed l refl) whole inside
+message-addresses (writeModifierRequest type ids buffer) typed whole inside = none
+message-addresses (writeModifierResponse type payloads buffer) typed whole inside = none
+message-addresses (writeInv type ids buffer) typed whole inside = none
+message-addresses (writeSyncInfo body) typed whole inside = none
+message-addresses (writeUnknown code body) typed whole inside = none
+
+-- 7
+body-within : (cap : ℕ) (v : MessageValue) → Each Holds (messageAsked cap v) → length (bodyBytes v) ≤ limit
+unfolding messageAsked
+body-within cap v h =
+    leb-true (length (bodyBytes v)) limit (each-first (each-rest (each-rest (each-append-right (entriesAsked (Values.entriesOf v)) _ h))))
+
+pub message-reads-back : (network : Network) (cap : ℕ) (w : MessageWrite) (out : List ℕ) (at end : ℕ) → PeersTyped w
+    → messageWritten network cap w out at ≡ To end → (length (bodyBytes (valueOf w)) ≤ limit) × ReadAs cap (valueOf w)
+unfolding messageWritten
+message-reads-back network cap w out at end typed q =
+    let a = written-accepted _ _ out at _ end q in
+    let asked = hold-each (messageAsked cap (valueOf w)) (a .rest .1) in
+    let writable : WritableMessage cap (valueOf w) =
+    record { asked = asked; ids = message-ids w (a .rest .0); addresses = message-addresses w typed (a .first .0) (a .rest .0) } in
+    (body-within cap (valueOf w) asked, reads-message cap (valueOf w) writable)

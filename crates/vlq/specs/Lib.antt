@@ -3,3 +3,4 @@ pub mod ShortString
 pub mod Answers
 pub mod VlqLaws
 pub mod ShortStringLaws
+pub mod Cases

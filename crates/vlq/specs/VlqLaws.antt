@@ -133,3 +133,53 @@ pub reads-vlqLength : (v : ℕ) → v ≤ limit → ReadsBack vlqLength (λ x. x
 unfolding vlqLength
 reads-vlqLength v h =
     reads-last (reads-vlq v (omega arith)) (λ x e. reads-guard (leb x limit) 3 x (le-leb x limit (omega arith)) e)
+
+-- ---- the shortest
+
+-- an answer to a VLQ at the place at: k bytes hold a sum below 128 ^ k
+abbrev Below : ℕ → Answer ℕ → Type 0
+Below at (got sum e) = (at < e) × (sum < 0x80 ^ (e - at))
+Below at (refused m) = Unit {0}
+
+below-group : (at g : ℕ) → g < 0x80 → (r : Answer ℕ) → Below (at + 1) r → Below at (bind r (λ rest next. got (g + 0x80 * rest) next))
+below-group at g h (got rest e) b =
+    let k : e - at ≡ suc (e - (at + 1)) = omega (arith, b .0) in
+    (omega (arith, b .0), rw k (omega (arith, b .1, pow-suc 0x80 (e - (at + 1)))))
+below-group at g h (refused m) b = tt
+
+below-byte : (at b : ℕ) → b < 0x80 → Below at (got b (at + 1))
+below-byte at b h = let k : at + 1 - at ≡ 1 = omega arith in (omega arith, rw k (omega arith))
+
+groups-below : (n : ℕ) (s : List ℕ) (at : ℕ) → Below at (groups n s at)
+unfolding groups
+groups-below zero s at = tt
+groups-below (suc n) s at =
+    ⊎-elim
+    (λ (h : at < length s).
+    rw (byte-got s at h)
+    (⊎-elim
+    (λ (l : getD s at 0 < 0x80). rw (lt-ltb (getD s at 0) 0x80 l) (below-byte at (getD s at 0) l))
+    (λ (l : 0x80 ≤ getD s at 0).
+    rw (le-ltb (getD s at 0) 0x80 l)
+    (below-group at (getD s at 0 % 0x80) (omega arith) (groups n s (at + 1)) (groups-below n s (at + 1))))
+    (lt-or-ge (getD s at 0) 0x80)))
+    (λ (h : length s ≤ at).
+    ⊎-elim
+    (λ (o : length s < at). rw (byte-outside s at o) tt)
+    (λ (o : at ≤ length s). rw (byte-missing s at (omega arith)) tt)
+    (lt-or-ge (length s) at))
+    (lt-or-ge at (length s))
+
+sum-shortest : (at v e : ℕ) (r : Answer ℕ) → Below at r → bind r (λ sum next. got (sum % 2 ^ 64) next) ≡ got v e → at + length (vlqBytes v) ≤ e
+sum-shortest at v e (got sum next) b q =
+    let x : sum % 2 ^ 64 ≡ v = cc in
+    let y : next ≡ e = cc in
+    let k : next - at ≡ suc (e - at - 1) = omega (arith, b .0) in
+    let l : v ≤ sum = omega arith in
+    omega (arith, b .0, vlq-length (e - at - 1) v (omega (arith, rw k at (b .1))))
+sum-shortest at v e (refused m) b q = let z : _≡_ {A = ℕ} 0 1 = cc in absurd (omega arith)
+
+-- whatever is read to v takes at least the bytes of v
+pub vlq-shortest : (s : List ℕ) (at v e : ℕ) → vlq s at ≡ got v e → at + length (vlqBytes v) ≤ e
+unfolding vlq
+vlq-shortest s at v e q = sum-shortest at v e (groups 10 s at) (groups-below 10 s at) q

@@ -5,7 +5,7 @@ use mathlib.Core.List.{List, [], _∷_}
 use mathlib.Core.Logic.{_↔_}
 use mathlib.Core.Path.{_≡_}
 use lib.Dec.{T, leb}
-use Rattle.walk.specs.Walk.{Layer, Item, Ending, clean, stopped, Reading, isCut}
+use Rattle.walk.specs.Walk.{Layer, Item, clean, stopped, Reading, isCut}
 
 -- the items that end by the cut at k, in order
 unfoldable pub endBy : {F : Type 0} → ℕ → List (Item F) → List (Item F)

@@ -1,12 +1,11 @@
 -- The cut rule, for any two readers that keep `ReaderLaws`. The readings of all the bytes and of the first k are followed from one place, step by step,
 -- until the part's comes to its end; `PartEnds` says what that end has to do with the items of the full reading.
-use Prim.Native.Nat.{ℕ, zero, suc, _+_, _≤_, _<_}
+use Prim.Native.Nat.{ℕ, _≤_, _<_}
 use native.Mathlib.Omega.{arith}
-use mathlib.Core.Bool.{Bool, true, false, cond}
 use mathlib.Core.List.{List, [], _∷_}
-use mathlib.Core.Logic.{_⊎_, inl, inr, ⊎-elim, _↔_}
+use mathlib.Core.Logic.{_⊎_, inl, inr, ⊎-elim}
 use mathlib.Core.Path.{_≡_, refl, sym, ap, _∙_}
-use lib.Dec.{T, leb}
+use lib.Dec.{T}
 use lib.ListN.{length, take}
 use lib.Seq.{length-take-le}
 use borrow.Author.Tests.{le-leb, lt-leb}
@@ -96,12 +95,14 @@ module _ {F : Type 0} {k : ℕ} {full : Reading F} where
   ends-clean (cleanly c) m = refl
   ends-clean (stopping b x p o) m = absurd (x m)
 
-  ends-stops : {e : Ending} → PartEnds k 0 full e → ¬ (EndsAt k (full .items)) → (layer : Layer) × (n : ℕ) × (e ≡ stopped layer n (lastEnd 0 (endBy k (full .items))))
+  ends-stops : {e : Ending} → PartEnds k 0 full e → ¬ (EndsAt k (full .items))
+      → (layer : Layer) × (n : ℕ) × (e ≡ stopped layer n (lastEnd 0 (endBy k (full .items))))
   ends-stops (cleanly (inl h)) x = absurd (omega arith)
   ends-stops (cleanly (inr m)) x = absurd (x m)
   ends-stops (stopping {layer = layer} {n = n} b x p o) y = (layer, n, ap (stopped layer n) p)
 
-  ends-own : {e : Ending} → PartEnds k 0 full e → (layer : Layer) (n at : ℕ) → e ≡ stopped layer n at → ¬ (T (isCut layer n)) → full .ending ≡ stopped layer n at
+  ends-own : {e : Ending} → PartEnds k 0 full e → (layer : Layer) (n at : ℕ) → e ≡ stopped layer n at → ¬ (T (isCut layer n))
+      → full .ending ≡ stopped layer n at
   ends-own (cleanly c) layer n at q y = let z : _≡_ {A = ℕ} 0 1 = cc in absurd (omega arith)
   ends-own (stopping {layer = layer′} {n = n′} b x p (inl t)) layer n at q y = let e : isCut layer′ n′ ≡ isCut layer n = cc in absurd (y (rw e at t))
   ends-own (stopping b x p (inr e)) layer n at q y = e ∙ q
@@ -148,16 +149,18 @@ module _ {F : Type 0} {handshakeAt : List ℕ → Opened F} {messageAt : List �
   stop-from s k at layer n h g b o p e (kept l) q = let z : _≡_ {A = ℕ} 0 1 = cc in absurd (omega arith)
   stop-from s k at layer n h g b o p e own q =
       let r = walk-stops laws s at layer n (λ z. let y = b z in omega arith) (e ∙ q) in
-      from-stop k at (Walk s at) (none-by k (walks laws s at (omega arith)) (λ f end q′. let z : _≡_ {A = ℕ} 0 1 = cc in absurd (omega arith))) layer n b (inr (rw r))
+      let none = none-by k (walks laws s at (omega arith)) (λ f end q′. let z : _≡_ {A = ℕ} 0 1 = cc in absurd (omega arith)) in
+      from-stop k at (Walk s at) none layer n b (inr (rw r))
   stop-from s k at layer n h g b o p e (short {layer = layer′} {n = n′} x t) q =
       let y : isCut layer′ n′ ≡ isCut layer n = cc in
-      from-stop k at (Walk s at) (none-by k (walks laws s at (omega arith)) (λ f end q′. past-end k o x f end (sym e ∙ q′))) layer n b (inl (rw y at t))
+      let none = none-by k (walks laws s at (omega arith)) (λ f end q′. past-end k o x f end (sym e ∙ q′)) in
+      from-stop k at (Walk s at) none layer n b (inl (rw y at t))
 
   cut-from : (s : List ℕ) (k at : ℕ) → at ≤ k → k ≤ length s → Walks laws (take k s) at → CutFrom k at (Walk s at) (Walk (take k s) at)
   cut-from s k at h g (over z e) =
       let n : length (take k s) ≡ k = length-take-le k s g in
-      rw (walk-over laws (take k s) at z e)
-      (from-clean k at (Walk s at) (none-by k (walks laws s at (omega arith)) (λ f end q. omega (arith, laws .some, laws .moves s at f end (omega arith) q))) z (omega arith))
+      let none = none-by k (walks laws s at (omega arith)) (λ f end q. omega (arith, laws .some, laws .moves s at f end (omega arith) q)) in
+      rw (walk-over laws (take k s) at z e) (from-clean k at (Walk s at) none z (omega arith))
   cut-from s k at h g (stops layer n b q) =
       let r : length (take k s) ≡ k = length-take-le k s g in
       rw (walk-stops laws (take k s) at layer n b q)
@@ -165,9 +168,12 @@ module _ {F : Type 0} {handshakeAt : List ℕ → Opened F} {messageAt : List �
   cut-from s k at h g (goes f end b q m l w) =
       let r : length (take k s) ≡ k = length-take-le k s g in
       let c = opened-kept (laws .cut s at k h g) f end q in
-      rw (walk-goes laws (take k s) at f end (omega arith) b q, walk-goes laws s at f end (omega arith) (λ z. let y = b z in omega arith) (c .0))
+      let part = walk-goes laws (take k s) at f end (omega arith) b q in
+      let full = walk-goes laws s at f end (omega arith) (λ z. let y = b z in omega arith) (c .0) in
+      rw (part, full)
       (from-item k at f end (Walk s end) (Walk (take k s) end) (omega (arith, laws .some)) (omega arith) (cut-from s k end (omega arith) g w))
 
+  -- the cut rule, for all bytes and every cut up to their length
   pub cut-rule : (s : List ℕ) (k : ℕ) → k ≤ length s → CutRule k (reading F handshakeAt messageAt s) (reading F handshakeAt messageAt (take k s))
   unfolding reading
   cut-rule s k h =

@@ -7,4 +7,5 @@ pub mod WalkLaws
 pub mod CutRuleLaws
 pub mod WrittenLaws
 pub mod SessionLaws
+pub mod TheoremsProved
 pub mod Cases

@@ -1,16 +1,16 @@
 -- A session of a network with a Peers cap (document 01, "The session walk"): what its items hold, and its reading.
-use Prim.Native.Nat.{ℕ, zero, suc, _+_}
-use mathlib.Core.Bool.{Bool, cond}
+use Prim.Native.Nat.{ℕ, suc}
+use mathlib.Core.Bool.{cond}
 use mathlib.Core.List.{List, [], _∷_}
 use lib.ListN.{length}
-use Rattle.wire.specs.Reader.{Answer, got, refused, Segment}
+use Rattle.wire.specs.Reader.{Answer, got, refused}
 use Rattle.types.specs.declared.Network.{Network}
 use Rattle.address_sanity.specs.Bogus.{bogus}
 use Rattle.handshake.specs.Entry.{Entry, EntryHandshake, handshake}
 use Rattle.handshake.specs.Verdict.{validatePeer}
 use Rattle.frame.specs.Frame.{BodyFrame, frame}
 use Rattle.messages.specs.Message.{Message, getPeers, peers, modifierRequest, modifierResponse, inv, syncInfo, unknown, message}
-use Rattle.walk.specs.Walk.{Layer, Opened, opened, refusedIn, Step, Reading, step, reading}
+use Rattle.walk.specs.Walk.{Opened, opened, refusedIn, Step, Reading, step, reading}
 use Rattle.walk.specs.Walk as Walk
 
 -- the fields of an item: a handshake, or a frame's code and the place of its body with what the body holds

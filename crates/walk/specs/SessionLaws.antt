@@ -1,18 +1,18 @@
 -- The laws of `WalkLaws` and `WrittenLaws`, supplied by the formats. An item's bytes are a handshake's or a whole frame's, so that what a cut does to it is
 -- what it does to the handshake or the frame: a body is read from the frame's own bytes.
-use Prim.Native.Nat.{ℕ, zero, suc, _+_, _^_, _≤_, _<_}
+use Prim.Native.Nat.{ℕ, zero, suc, _+_, _≤_, _<_}
 use native.Mathlib.Omega.{arith}
-use mathlib.Core.Bool.{Bool, true, false}
-use mathlib.Core.List.{List, [], _∷_}
-use mathlib.Core.Path.{_≡_, refl, sym, ap, _∙_}
+use mathlib.Core.Bool.{true, false}
+use mathlib.Core.List.{List}
+use mathlib.Core.Path.{_≡_, sym, ap, _∙_}
 use lib.Dec.{T, eqb}
 use lib.ListN.{length, take}
 use borrow.Author.Tests.{eqb-true}
-use Rattle.wire.specs.BytesLaws.{Each, none, more, each-first, each-rest}
+use Rattle.wire.specs.OutputLaws.{written-accepted}
 use Rattle.wire.specs.Reader.{Answer, got, refused}
 use Rattle.wire.specs.ReadsBack.{StandsAt, ReadsBack}
 use Rattle.wire.specs.declared.Written.the-variants.{To}
-use Rattle.wire.specs.Stable.{Beyond, CutTo, kept, own, short, Stable, AtLeast}
+use Rattle.wire.specs.Stable.{Beyond, CutTo, kept, own, short}
 use Rattle.vlq.specs.Vlq.{limit}
 use Rattle.types.specs.declared.Address.{Address}
 use Rattle.types.specs.declared.Address.the-variants.{None, V4, V6}
@@ -20,22 +20,18 @@ use Rattle.types.specs.declared.Network.{Network}
 use Rattle.handshake.specs.AddressLaws as Handshakes
 use Rattle.handshake.specs.Entry.{EntryHandshake, handshake}
 use Rattle.handshake.specs.EntryLaws.{stable-handshake, least-handshake}
-use Rattle.handshake.specs.Value.{HandshakeValue, handshakeValue, handshakeBytes, entriesAsked}
-use Rattle.handshake.specs.ValueLaws.{Writable, reads-handshake, Holds, asked-writable-one}
-use Rattle.handshake_write.specs.AskedLaws.{Accepted, accepted}
-use Rattle.handshake_write.specs.Tables.{Lent, entryRow, tablesWhole}
-use Rattle.handshake_write.specs.TablesLaws.{row-numbers, row-inside, row-address}
-use Rattle.handshake_write.specs.Writes.{entryAt, rowAsked, handshakeWritten, Config, built, builtWritten}
+use Rattle.handshake.specs.Value.{HandshakeValue, handshakeValue, handshakeBytes}
+use Rattle.handshake_write.specs.Writes.{handshakeWritten, built, builtWritten}
+use Rattle.handshake_write.specs.WritesLaws.{handshake-reads-back, built-reads-back}
 use Rattle.frame.specs.Frame.{BodyFrame, frame}
 use Rattle.frame.specs.FrameLaws.{stable-frame, least-frame, FrameValue, reads-frame}
 use Rattle.messages.specs.Message.{Message, message}
-use Rattle.messages.specs.MessageLaws.{idsOf, WritableMessage, ReadAs, reads-message}
-use Rattle.messages.specs.Value as Values
-use Rattle.messages.specs.Value.{MessageValue, messageValue, codeOf, bodyBytes, messageAsked}
-use Rattle.messages_write.specs.Writes.{MessageWrite, writeGetPeers, writePeers, writeModifierRequest, writeModifierResponse, writeInv, writeSyncInfo, writeUnknown, valueOf, messageWhole, messageInside, messageBytes, messageWritten}
-use Rattle.messages_write.specs.WritesLaws.{body-within, ids-long, payload-ids-long, entries-addresses}
+use Rattle.messages.specs.MessageLaws.{ReadAs}
+use Rattle.messages.specs.Value.{MessageValue, codeOf, bodyBytes}
+use Rattle.messages_write.specs.Writes.{MessageWrite, valueOf, messageBytes, messageWritten}
+use Rattle.messages_write.specs.WritesLaws.{PeersTyped, message-reads-back}
 use Rattle.walk.specs.Walk as Walk
-use Rattle.walk.specs.Walk.{Opened, opened, refusedIn, isCut}
+use Rattle.walk.specs.Walk.{Opened, opened, isCut}
 use Rattle.walk.specs.WalkLaws as Laws
 use Rattle.walk.specs.WalkLaws.{Past, OpenedCut, openAt, ReaderLaws}
 use Rattle.walk.specs.Session.{Content, handshakeItem, messageItem, frameItem, handshakeAt, messageAt}
@@ -132,43 +128,25 @@ module _ (network : Network) (cap : ℕ) where
 
 -- ---- the writers
 
--- what an accepted write of a handshake or of a message must be to be read back
-handshake-writable : (timestamp : ℕ) (l : Lent) (k : ℕ) → bytesTyped (l .buffer) ≡ true → tablesWhole l ≡ true → Each Holds (rowAsked l k) → Writable (entryAt l k)
-unfolding bytesTyped
-handshake-writable timestamp l k typed whole (more inside asked) =
-    asked-writable-one (entryAt l k) asked (row-address l (entryRow (l .entries) k) (row-numbers l whole k inside) (row-inside l whole k inside) typed)
-
 address-typed : (a : Address) → AddressTyped a → Handshakes.AddressTyped a
 unfolding AddressTyped Handshakes.AddressTyped
 address-typed None h = h
 address-typed (V4 ip port) h = h
 address-typed (V6 high low port) h = h
 
-built-writable : (c : Config) → AddressTyped (c .address) → Each Holds (entriesAsked (built c .entry ∷ [])) → Writable (built c .entry)
-unfolding built
-built-writable c typed asked = asked-writable-one (built c .entry) asked (address-typed (c .address) typed)
-
-message-writable : (cap : ℕ) (w : MessageWrite) → MessageTyped w → messageWhole w ≡ true → messageInside w ≡ true → Each Holds (messageAsked cap (valueOf w))
-    → WritableMessage cap (valueOf w)
-unfolding MessageTyped bytesTyped messageWhole messageInside valueOf Values.entriesOf idsOf
-message-writable cap writeGetPeers typed whole inside asked = record { asked = asked; ids = none; addresses = none }
-message-writable cap (writePeers l) typed whole inside asked = record { asked = asked; ids = none; addresses = entries-addresses l typed whole inside }
-message-writable cap (writeModifierRequest type ids buffer) typed whole inside asked = record { asked = asked; ids = ids-long ids buffer inside; addresses = none }
-message-writable cap (writeModifierResponse type payloads buffer) typed whole inside asked =
-    record { asked = asked; ids = payload-ids-long payloads buffer inside; addresses = none }
-message-writable cap (writeInv type ids buffer) typed whole inside asked = record { asked = asked; ids = ids-long ids buffer inside; addresses = none }
-message-writable cap (writeSyncInfo body) typed whole inside asked = record { asked = asked; ids = none; addresses = none }
-message-writable cap (writeUnknown code body) typed whole inside asked = record { asked = asked; ids = none; addresses = none }
+peers-typed : (w : MessageWrite) → MessageTyped w → PeersTyped w
+unfolding MessageTyped bytesTyped
+peers-typed w h l e = rw e at h
 
 module _ (network : Network) (cap : ℕ) where
   -- a handshake's bytes at place 0
-  handshake-opens : (v : HandshakeValue) → v .timestamp < 2 ^ 64 → Writable (v .entry) → (s : List ℕ) (p : ℕ) → true ≡ eqb p 0 → StandsAt s p (handshakeBytes v)
-      → Opens network cap (handshakeBytes v) (handshakeOf v) s p
+  handshake-opens : (v : HandshakeValue) → ReadsBack handshake handshakeValue (handshakeBytes v) v → (s : List ℕ) (p : ℕ) → true ≡ eqb p 0
+      → StandsAt s p (handshakeBytes v) → Opens network cap (handshakeBytes v) (handshakeOf v) s p
   unfolding openAt handshakeAt handshakeItem fieldsValue
-  handshake-opens v t h s zero e g =
-      let r = reads-handshake v t h .reads s 0 g in
+  handshake-opens v h s zero e g =
+      let r = h .reads s 0 g in
       (_, ap (handshakeItem network) (r .1), ap handshakeOf (r .2))
-  handshake-opens v t h s (suc p) e g = absurd (omega (arith, eqb-true (suc p) 0 (sym e)))
+  handshake-opens v h s (suc p) e g = absurd (omega (arith, eqb-true (suc p) 0 (sym e)))
 
   -- the body of a frame
   body-reads : (v : MessageValue) (code : ℕ) (body : List ℕ) → code ≡ codeOf v → body ≡ bodyBytes v → (r : ReadAs cap v)
@@ -176,42 +154,38 @@ module _ (network : Network) (cap : ℕ) where
   body-reads v code body e f r = rw (e, f) (r .reads)
 
   -- a message's frame at any other place
-  message-opens : (v : MessageValue) → length (bodyBytes v) ≤ limit → ReadAs cap v → (s : List ℕ) (p : ℕ) → false ≡ eqb p 0 → StandsAt s p (messageBytes network v)
-      → Opens network cap (messageBytes network v) (messageOf v) s p
+  message-opens : (v : MessageValue) → length (bodyBytes v) ≤ limit → ReadAs cap v → (s : List ℕ) (p : ℕ) → false ≡ eqb p 0
+      → StandsAt s p (messageBytes network v) → Opens network cap (messageBytes network v) (messageOf v) s p
   unfolding openAt messageAt frameItem messageItem fieldsValue
   message-opens v small r s zero e g = let z : _≡_ {A = ℕ} 0 1 = cc in absurd (omega arith)
   message-opens v small r s (suc p) e g =
       let f = reads-frame network (codeOf v) (bodyBytes v) small .reads s (suc p) g in
       let code : f .0 .code ≡ codeOf v = ap (λ (x : FrameValue). x .code) (f .2) in
-      let body : f .0 .body .bytes ≡ bodyBytes v = ap (λ (x : FrameValue). x .body) (f .2) in
-      (
+      let body : f .0 .body .bytes ≡ bodyBytes v = ap (λ (x : FrameValue). x .body) (f .2) in (
         _,
         ap (frameItem network cap) (f .1)
             ∙ ap (messageItem network (f .0) (suc p + length (messageBytes network v))) (body-reads v (f .0 .code) (f .0 .body .bytes) code body r),
         rw code (ap messageOf (r .value)),
       )
 
-  write-ends : (w : Write) (out : List ℕ) (at end : ℕ) → said network cap w out at ≡ To end → (end ≡ at + length (writeBytes network cap w)) × (end ≤ length out)
+  write-ends : (w : Write) (out : List ℕ) (at end : ℕ) → said network cap w out at ≡ To end
+      → (end ≡ at + length (writeBytes network cap w)) × (end ≤ length out)
   unfolding said writeBytes handshakeWritten builtWritten messageWritten
-  write-ends (writeHandshake timestamp l k) out at end q = let a = accepted _ _ out at _ end q in (a .ends, a .room)
-  write-ends (writeBuilt c) out at end q = let a = accepted _ _ out at _ end q in (a .ends, a .room)
-  write-ends (writeMessage w) out at end q = let a = accepted _ _ out at _ end q in (a .ends, a .room)
+  write-ends (writeHandshake timestamp l k) out at end q = let a = written-accepted _ _ out at _ end q in (a .end, omega (arith, a .end, a .room))
+  write-ends (writeBuilt c) out at end q = let a = written-accepted _ _ out at _ end q in (a .end, omega (arith, a .end, a .room))
+  write-ends (writeMessage w) out at end q = let a = written-accepted _ _ out at _ end q in (a .end, omega (arith, a .end, a .room))
 
   write-reads : (w : Write) (out : List ℕ) (at end : ℕ) → Typed w → said network cap w out at ≡ To end
       → (s : List ℕ) (p : ℕ) → isHandshake w ≡ eqb p 0 → StandsAt s p (writeBytes network cap w)
       → Opens network cap (writeBytes network cap w) (writeValue w) s p
-  unfolding said Typed writeBytes writeValue isHandshake handshakeWritten builtWritten messageWritten
+  unfolding said Typed bytesTyped writeBytes writeValue isHandshake
   write-reads (writeHandshake timestamp l k) out at end typed q =
-      let a = accepted _ _ out at _ end q in
-      handshake-opens _ (typed .0) (handshake-writable timestamp l k (typed .1) (each-first (a .asked-before)) (a .asked-after))
+      handshake-opens _ (handshake-reads-back timestamp l k out at end (typed .0) (typed .1) q)
   write-reads (writeBuilt c) out at end typed q =
-      let a = accepted _ _ out at _ end q in
-      handshake-opens (built c) ? (built-writable c (typed .1) (a .asked-after))
+      handshake-opens (built c) (built-reads-back c out at end (typed .0) (address-typed (c .address) (typed .1)) q)
   write-reads (writeMessage w) out at end typed q =
-      let a = accepted _ _ out at _ end q in
-      let asked = each-rest (a .asked-after) in
-      message-opens (valueOf w) (body-within cap (valueOf w) asked)
-      (reads-message cap (valueOf w) (message-writable cap w typed (each-first (a .asked-before)) (each-first (a .asked-after)) asked))
+      let r = message-reads-back network cap w out at end (peers-typed w typed) q in
+      message-opens (valueOf w) (r .0) (r .1)
 
   pub session-writers : WriterLaws network cap
   session-writers = record { ends = write-ends; reads = write-reads }

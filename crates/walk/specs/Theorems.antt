@@ -1,14 +1,14 @@
 -- What holds of every session, for every network and Peers cap. The statements alone; `TheoremsProved` proves them.
-use Prim.Native.Nat.{ℕ, _+_, _*_, _≤_}
+use Prim.Native.Nat.{ℕ, _*_, _≤_}
 use mathlib.Core.List.{List, [], _∷_, map}
 use mathlib.Core.Logic.{_⊎_}
 use mathlib.Core.Path.{_≡_}
 use lib.ListN.{length, take}
 use Rattle.types.specs.declared.Network.{Network}
-use Rattle.walk.specs.Walk.{Layer, Item, Ending, clean, stopped, Reading}
+use Rattle.walk.specs.Walk.{Layer, Item, clean, stopped}
 use Rattle.walk.specs.CutRule.{CutRule}
-use Rattle.walk.specs.Session.{Content, sessionReading}
-use Rattle.walk.specs.WrittenSession.{Write, writeValue, AllTyped, Done, writeAll, sessionBytes, HandshakeFirst, itemValues}
+use Rattle.walk.specs.Session.{sessionReading}
+use Rattle.walk.specs.WrittenSession.{Write, writeValue, AllTyped, writeAll, sessionBytes, HandshakeFirst, itemValues}
 
 -- each item starts where the last one ended, the first at a place
 pub data Chained {F : Type 0} : ℕ → List (Item F) → Type 0 where

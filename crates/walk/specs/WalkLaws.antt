@@ -1,17 +1,16 @@
--- The walk over any two readers that keep `ReaderLaws`: its three equations, after which nothing looks at the count of `walkIn`, and what every
--- reading has: an ending, items that follow one another from place 0 on, and no more of them than the bytes have room for.
+-- The walk over any two readers that keep `ReaderLaws`: its equations, after which nothing looks at the count of `walkIn`, and what every reading has:
+-- an ending, items that follow one another from place 0 on, and no more of them than the bytes have room for.
 use Prim.Native.Nat.{ℕ, zero, suc, _+_, _-_, _*_, _≤_, _<_}
 use native.Mathlib.Omega.{arith}
-use mathlib.Core.Bool.{Bool, true, false, cond}
 use mathlib.Core.List.{List, [], _∷_}
 use mathlib.Core.Logic.{_⊎_, inl, inr, ⊎-elim}
 use mathlib.Core.Path.{_≡_, refl, sym, ap, _∙_}
-use lib.Dec.{T, eqb, leb}
+use lib.Dec.{T}
 use lib.ListN.{length, take}
 use lib.Seq.{take-length}
 use borrow.Author.Tests.{le-leb, lt-leb, eq-eqb, ne-eqb}
 use Rattle.wire.specs.Numbers.{lt-or-ge}
-use Rattle.walk.specs.Walk.{Layer, Opened, opened, refusedIn, Item, Step, item, cleanEnd, stop, outside, Ending, clean, stopped, unended, Reading, isCut, stepTo, onward, step, walkIn, walk, reading}
+use Rattle.walk.specs.Walk.{Layer, Opened, opened, refusedIn, Item, Step, item, stop, cleanEnd, outside, Ending, clean, stopped, Reading, isCut, stepTo, onward, step, walkIn, walk}
 use Rattle.walk.specs.Theorems as Theorems
 use Rattle.walk.specs.Theorems.{Chained, link}
 
@@ -110,13 +109,15 @@ module _ {F : Type 0} {handshakeAt : List ℕ → Opened F} {messageAt : List �
   pub data Walks (s : List ℕ) : ℕ → Type 0 where
     over : {at : ℕ} → 0 < at → at ≡ length s → Walks s at
     stops : {at : ℕ} (layer : Layer) (n : ℕ) → (0 < at → at < length s) → Open s at ≡ refusedIn layer n → Walks s at
-    goes : {at : ℕ} (f : F) (end : ℕ) → (0 < at → at < length s) → Open s at ≡ opened f end → at + least ≤ end → end ≤ length s → Walks s end → Walks s at
+    goes : {at : ℕ} (f : F) (end : ℕ) → (0 < at → at < length s) → Open s at ≡ opened f end → at + least ≤ end → end ≤ length s → Walks s end
+        → Walks s at
 
   walks-in : (c : ℕ) (s : List ℕ) (at : ℕ) → at ≤ length s → length s < at + c → Walks s at
   walks-in zero s at h g = absurd (omega arith)
   walks-in (suc c) s at h g = go (λ end e l. walks-in c s end e l) (place-of (length s) at h)
     where
-      from : ((end : ℕ) → end ≤ length s → length s < end + c → Walks s end) → (0 < at → at < length s) → (o : Opened F) → Open s at ≡ o → Walks s at
+      from : ((end : ℕ) → end ≤ length s → length s < end + c → Walks s end) → (0 < at → at < length s)
+          → (o : Opened F) → Open s at ≡ o → Walks s at
       from next b (refusedIn layer n) q = stops layer n b q
       from next b (opened f end) q =
           let m : at + least ≤ end = laws .moves s at f end h q in
@@ -175,6 +176,33 @@ module _ {F : Type 0} {handshakeAt : List ℕ → Opened F} {messageAt : List �
       in-goes (length s - at) s at f end b q
       ∙ ap (λ (c : ℕ). itemThen at f end (WalkIn c s end)) n
       ∙ ap (itemThen at f end) (same-count (walks s end e) (length s - at - 1) (length s - end) (omega (arith, laws .some)) (omega arith))
+
+  -- the walk from a place is the step's answer there and, after an item, the walk from its end
+  pub walk-step : (s : List ℕ) (at : ℕ) → at ≤ length s → Walk s at ≡ onward (step F handshakeAt messageAt s at) (Walk s)
+  unfolding onward stepTo
+  walk-step s at h = go (walks s at h)
+    where
+      go : Walks s at → Walk s at ≡ onward (step F handshakeAt messageAt s at) (Walk s)
+      go (over z e) = rw (walk-over s at z e, step-end F handshakeAt messageAt s at z e)
+      go (stops layer n b q) = rw (walk-stops s at layer n b q, step-open F handshakeAt messageAt s at b, q)
+      go (goes f end b q m l w) = rw (walk-goes s at f end h b q, step-open F handshakeAt messageAt s at b, q)
+
+  -- an item of a step starts at its place, and ends after it, within the bytes
+  pub step-item : (s : List ℕ) (at : ℕ) (i : Item F) → at ≤ length s → step F handshakeAt messageAt s at ≡ item i
+      → (i .start ≡ at) × (at + least ≤ i .end) × (i .end ≤ length s)
+  unfolding stepTo
+  step-item s at i h p = go (walks s at h)
+    where
+      go : Walks s at → (i .start ≡ at) × (at + least ≤ i .end) × (i .end ≤ length s)
+      go (over z e) = let x = sym (step-end F handshakeAt messageAt s at z e) ∙ p in let y : _≡_ {A = ℕ} 0 1 = cc in absurd (omega arith)
+      go (stops layer n b q) =
+          let x : stop layer n at ≡ item i = ap (stepTo at) (sym q) ∙ sym (step-open F handshakeAt messageAt s at b) ∙ p in
+          let y : _≡_ {A = ℕ} 0 1 = cc in absurd (omega arith)
+      go (goes f end b q m l w) =
+          let x : item (record { start = at; end = end; holds = f }) ≡ item i = ap (stepTo at) (sym q) ∙ sym (step-open F handshakeAt messageAt s at b) ∙ p in
+          let j : record { start = at; end = end; holds = f } ≡ i = cc in
+          let e : i .end ≡ end = sym (ap (λ (x : Item F). x .end) j) in
+          (sym (ap (λ (x : Item F). x .start) j), omega arith, omega arith)
 
   -- ---- every walk from a place
 

@@ -1,8 +1,7 @@
 -- Written sessions, for any writers that keep `WriterLaws`. The output up to the last accepted end is the accepted writes' bytes, one after the other
 -- (`session-left`); read from place 0 on, each of them gives the item of its value, and the last ends where the bytes end.
-use Prim.Native.Nat.{ℕ, zero, suc, _+_, _≤_, _<_}
+use Prim.Native.Nat.{ℕ, _+_, _≤_, _<_}
 use native.Mathlib.Omega.{arith}
-use mathlib.Core.Bool.{Bool, true, false}
 use mathlib.Core.List.{List, [], _∷_, _++_, map, flatMap, append-assoc, append-nil}
 use mathlib.Core.Path.{_≡_, refl, sym, ap, _∙_}
 use lib.Dec.{eqb}
@@ -16,7 +15,7 @@ use Rattle.wire.specs.ReadsBackLaws.{stands-left, stands-right, stands-whole}
 use Rattle.wire.specs.declared.Written.{Written}
 use Rattle.wire.specs.declared.Written.the-variants.{To, Refused}
 use Rattle.types.specs.declared.Network.{Network}
-use Rattle.walk.specs.Walk.{Opened, opened, Item, Ending, clean, Reading, walk, reading}
+use Rattle.walk.specs.Walk.{opened, clean, Reading, walk, reading}
 use Rattle.walk.specs.WalkLaws.{openAt, ReaderLaws, itemThen, walk-over, walk-goes}
 use Rattle.walk.specs.Session.{Content, handshakeAt, messageAt, sessionReading}
 use Rattle.walk.specs.WrittenSession as Session
@@ -63,8 +62,8 @@ module _ (network : Network) (cap least : ℕ) (readers : ReaderLaws Content (ha
       ∙ take-at (take at out ++ bs) (drop (at + length bs) out) (at + length bs)
       (length-append (take at out) bs ∙ ap (λ (n : ℕ). n + length bs) (length-take-le at out (omega arith)))
 
-  left-after : (w : Write) (r : Written) (out : List ℕ) (at : ℕ) (next : List ℕ → ℕ → Done) → Typed w → said network cap w out at ≡ r → at ≤ length out
-      → ((o : List ℕ) (p : ℕ) → p ≤ length o → Left (take p o) (next o p))
+  left-after : (w : Write) (r : Written) (out : List ℕ) (at : ℕ) (next : List ℕ → ℕ → Done) → Typed w → said network cap w out at ≡ r
+      → at ≤ length out → ((o : List ℕ) (p : ℕ) → p ≤ length o → Left (take p o) (next o p))
       → Left (take at out) (after w r (outputAfter r out at (writeBytes network cap w)) at next)
   unfolding after outputAfter allBytes flatMap
   left-after w (Refused n) out at next t q h ih = ih out at h
@@ -73,9 +72,10 @@ module _ (network : Network) (cap least : ℕ) (readers : ReaderLaws Content (ha
       let e = writers .ends w out at end q in
       let l = ih (put out at bs) end (omega (arith, length-put out at bs)) in
       let f : take end (put out at bs) ≡ take at out ++ bs = rw (e .0) (take-put out at bs (omega arith)) in
+      let rest : List ℕ = allBytes (next (put out at bs) end .accepted) in
       record {
         accepted = more out at end t q (l .accepted);
-        bytes = l .bytes ∙ ap (λ (b : List ℕ). b ++ allBytes (next (put out at bs) end .accepted)) f ∙ append-assoc (take at out) bs (allBytes (next (put out at bs) end .accepted));
+        bytes = l .bytes ∙ ap (λ (b : List ℕ). b ++ rest) f ∙ append-assoc (take at out) bs rest;
       }
 
   left : {ws : List Write} → AllTyped ws → (out : List ℕ) (at : ℕ) → at ≤ length out → Left (take at out) (writeAll network cap ws out at)

@@ -1,10 +1,10 @@
 -- Written sessions (document 01, "The session walk", the paragraph on written sessions): lists of writes from place 0 of an output.
-use Prim.Native.Nat.{ℕ, _+_, _^_, _<_}
+use Prim.Native.Nat.{ℕ, _^_, _<_}
 use mathlib.Core.Bool.{Bool, true, false}
 use mathlib.Core.List.{List, [], _∷_, map}
 use mathlib.Core.Path.{_≡_}
 use lib.Dec.{ltb}
-use lib.ListN.{length, take}
+use lib.ListN.{take}
 use Rattle.wire.specs.Bytes.{every}
 use Rattle.wire.specs.Output.{outputAfter}
 use Rattle.wire.specs.declared.Written.{Written}
@@ -18,7 +18,7 @@ use Rattle.handshake_write.specs.Writes.{Config, built, builtWritten, handshake
 use Rattle.messages.specs.Value.{MessageValue, messageValue}
 use Rattle.messages_write.specs.Writes as Messages
 use Rattle.messages_write.specs.Writes.{MessageWrite, messageBytes, messageWritten}
-use Rattle.walk.specs.Walk.{Item, Ending, clean, Reading}
+use Rattle.walk.specs.Walk.{Item}
 use Rattle.walk.specs.Session.{Fields, handshakeFields, messageFields, Content}
 
 -- one call of a writer, with all that it was given

@@ -10,3 +10,4 @@ pub mod ReadsBack
 pub mod ReadsBackLaws
 pub mod ListLaws
 pub mod Numbers
+pub mod Cases

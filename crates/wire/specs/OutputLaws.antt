@@ -1,11 +1,14 @@
 -- Laws of `put`: one write after another is one write; where there is room, the bytes stand in the output and every other byte is as it was.
+-- Then those of `written` and `outputAfter`: when a writer accepts, and what its caller knows then.
 use Prim.Native.Nat.{ℕ, zero, suc, _+_, _-_, _≤_, _<_}
 use native.Mathlib.Nat.{add-zero}
 use native.Mathlib.Numerals.{add-one}
 use native.Mathlib.Omega.{arith}
-use mathlib.Core.Bool.{Bool, true, false}
+use mathlib.Core.Bool.{Bool, true, false, cond}
 use mathlib.Core.List.{List, [], _∷_, _++_, append-assoc}
 use mathlib.Core.Path.{_≡_, refl, sym, ap, _∙_}
+use borrow.Author.Tests.{le-leb, lt-leb, leb-true}
+use lib.Dec.{leb}
 use lib.ListN.{length, getD, take, drop, set, length-set, length-append, length-take, length-drop}
 use lib.Seq.{drop-cons, sets, sets-eq, take-at, drop-at, drop-drop, length-take-le, take-append-seam}
 use Rattle.wire.specs.declared.Written.{Written}
@@ -111,3 +114,85 @@ writing-end {out} {at} {bs} {m} {mid} {rest} z s =
 pub writing-room : {out : List ℕ} {at : ℕ} {bs : List ℕ} {m : ℕ} {mid rest : List ℕ} (a b : List ℕ)
     → rest ≡ a ++ b → Writing out at bs m mid rest → at + length bs ≤ length out → m + length a ≤ length mid
 writing-room a b p s h = omega (arith, s .end, s .long, length-append a b, ap length p)
+
+-- ---- what a writer says, and what its caller knows
+
+-- every question is answered "yes"
+abbrev pub AllHold : List Question → Type 0
+AllHold [] = Unit {0}
+AllHold (q ∷ qs) = (q .holds ≡ true) × AllHold qs
+
+asked-append : (a b : List Question) (w : Written) → asked (a ++ b) w ≡ asked a (asked b w)
+unfolding asked
+asked-append [] b w = refl
+asked-append (q ∷ a) b w = ap (λ (x : Written). cond (q .holds) x (Refused (q .number))) (asked-append a b w)
+
+pub asked-all : (qs : List Question) (w : Written) → AllHold qs → asked qs w ≡ w
+unfolding asked
+asked-all [] w h = refl
+asked-all (q ∷ qs) w h = rw (h .0) (asked-all qs w (h .1))
+
+cond-to : (b : Bool) (w : Written) (m e : ℕ) → cond b w (Refused m) ≡ To e → (b ≡ true) × (w ≡ To e)
+cond-to true w m e p = (refl, p)
+cond-to false w m e p = let z : _≡_ {A = ℕ} 0 1 = cc in absurd (omega arith)
+
+pub asked-to : (qs : List Question) (w : Written) (e : ℕ) → asked qs w ≡ To e → AllHold qs × (w ≡ To e)
+unfolding asked
+asked-to [] w e p = (tt, p)
+asked-to (q ∷ qs) w e p =
+    let x = cond-to (q .holds) (asked qs w) (q .number) e p in
+    let y = asked-to qs w e (x .1) in
+    ((x .0, y .0), y .1)
+
+-- a writer accepted: every question holds, there is room, and it ends after its bytes
+pub record Accepted (before after : List Question) (out : List ℕ) (at : ℕ) (bs : List ℕ) (e : ℕ) : Type 0 where
+  pub first : AllHold before
+  pub rest : AllHold after
+  pub room : at + length bs ≤ length out
+  pub end : e ≡ at + length bs
+
+module _ (before after : List Question) (out : List ℕ) (at : ℕ) (bs : List ℕ) where
+  -- the questions one after the other
+  in-order : written before after out at bs
+      ≡ asked before
+      (cond (leb at (length out)) (asked after (cond (leb (at + length bs) (length out)) (To (at + length bs)) (Refused 14))) (Refused 12))
+  unfolding written asked
+  in-order =
+      asked-append before _ _
+      ∙ ap (λ (w : Written). asked before (cond (leb at (length out)) w (Refused 12)))
+      (asked-append after (ask 14 (leb (at + length bs) (length out)) ∷ []) (To (at + length bs)))
+
+  pub written-to : AllHold before → AllHold after → at + length bs ≤ length out → written before after out at bs ≡ To (at + length bs)
+  written-to f r h =
+      in-order ∙ asked-all before _ f
+      ∙ rw (le-leb at (length out) (omega arith), le-leb (at + length bs) (length out) h) (asked-all after _ r)
+
+  pub written-outside : AllHold before → length out < at → written before after out at bs ≡ Refused 12
+  written-outside f h = in-order ∙ asked-all before _ f ∙ rw (lt-leb at (length out) h)
+
+  pub written-full : AllHold before → AllHold after → at ≤ length out → length out < at + length bs → written before after out at bs ≡ Refused 14
+  written-full f r h g =
+      in-order ∙ asked-all before _ f
+      ∙ rw (le-leb at (length out) h, lt-leb (at + length bs) (length out) g) (asked-all after _ r)
+
+  pub written-accepted : (e : ℕ) → written before after out at bs ≡ To e → Accepted before after out at bs e
+  written-accepted e p =
+      let x = asked-to before _ e (sym in-order ∙ p) in
+      let y = cond-to (leb at (length out)) _ 12 e (x .1) in
+      let z = asked-to after _ e (y .1) in
+      let w = cond-to (leb (at + length bs) (length out)) (To (at + length bs)) 14 e (z .1) in
+      let q = w .1 in
+      record { first = x .0; rest = z .0; room = leb-true (at + length bs) (length out) (w .0); end = cc }
+
+  -- a writer that was called said r and left last
+  module _ {r : Written} {last : List ℕ} (says : r ≡ written before after out at bs) (left : last ≡ outputAfter r out at bs) where
+    pub wrote-to : (e : ℕ) → r ≡ To e → Wrote out at bs e last
+    unfolding outputAfter
+    wrote-to e p = record { end = written-accepted e (sym says ∙ p) .end; bytes = rw p at left }
+
+    pub wrote-checked : AllHold before → AllHold after → at + length bs ≤ length out → Wrote out at bs (at + length bs) last
+    wrote-checked f t h = wrote-to (at + length bs) (says ∙ written-to f t h)
+
+    pub wrote-refused : (m : ℕ) → r ≡ Refused m → last ≡ out
+    unfolding outputAfter
+    wrote-refused m p = rw p at left

@@ -1,0 +1,8 @@
+-- The laws that the proofs of the functions cite.
+pub mod Blocks
+pub mod Chain
+pub mod Elements
+pub mod Filled
+pub mod Order
+pub mod PartsLaws
+pub mod Table

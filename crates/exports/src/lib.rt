@@ -1,0 +1,221 @@
+// The functions that Rust and C link. Each returns 0, or document 01's refusal number with the lent array and output as they were.
+// A slice passes as a pointer and a length, an array as a pointer.
+ghost use mathlib.Core.Path.{_≡_};
+ghost use mathlib.Core.List.{[]};
+ghost use Rattle.wire.specs.Reader.{byte, part, partOf, mapAnswer};
+ghost use Rattle.wire.specs.Output.{written, outputAfter};
+ghost use Rattle.utf8.specs.Utf8.{utf8};
+ghost use Rattle.vlq.specs.Vlq.{vlq, vlqLength, vlqBytes};
+ghost use Rattle.vlq.specs.ShortString.{shortString, shortStringBytes};
+ghost use Rattle.vlq_write.specs.Asked.{shortStringAsked};
+ghost use Rattle.zigzag.specs.Zigzag.{zigzagEncode, zigzagDecode};
+ghost use Rattle.types.specs.declared.Address.the-variants.{V4, V6};
+ghost use Rattle.address_sanity.specs.Bogus.{bogus};
+ghost use Rattle.blake2b.specs.Blake2b.{blake2b256, check};
+ghost use Rattle.exports.specs.Results.{numberOf, arrayAfter, valueNext, partNext, writtenNumber, endAfter, bit, networkOf};
+
+use types::{Address, Network};
+use vlq::{ByteRead, Cursor, PartRead, VlqRead};
+use wire::Written;
+
+// r is the value and the next place.
+#[no_mangle]
+pub extern "C" fn haspeljo_read_byte(s: &[u8], at: usize, r: &mut [u64; 2]) -> u8
+    ensures { λ n. ⌜ n ≡ numberOf (byte (now (s .entry)) at) ⌝ }
+    ensures { λ n. ⌜ now (r .exit) ≡ arrayAfter valueNext (byte (now (s .entry)) at) (now (r .entry)) ⌝ }
+{
+    let c = Cursor { at };
+    match c.read_byte(s) {
+        ByteRead::Value(v, next) => {
+            *r = [v as u64, next.at as u64];
+            0
+        }
+        ByteRead::Refused(m) => m,
+    }
+}
+
+// r is the value and the next place.
+#[no_mangle]
+pub extern "C" fn haspeljo_read_vlq(s: &[u8], at: usize, r: &mut [u64; 2]) -> u8
+    ensures { λ n. ⌜ n ≡ numberOf (vlq (now (s .entry)) at) ⌝ }
+    ensures { λ n. ⌜ now (r .exit) ≡ arrayAfter valueNext (vlq (now (s .entry)) at) (now (r .entry)) ⌝ }
+{
+    let c = Cursor { at };
+    match c.read_vlq(s) {
+        VlqRead::Value(v, next) => {
+            *r = [v, next.at as u64];
+            0
+        }
+        VlqRead::Refused(m) => m,
+    }
+}
+
+// r is the length and the next place.
+#[no_mangle]
+pub extern "C" fn haspeljo_read_vlq_length(s: &[u8], at: usize, r: &mut [u64; 2]) -> u8
+    ensures { λ n. ⌜ n ≡ numberOf (vlqLength (now (s .entry)) at) ⌝ }
+    ensures { λ n. ⌜ now (r .exit) ≡ arrayAfter valueNext (vlqLength (now (s .entry)) at) (now (r .entry)) ⌝ }
+{
+    let c = Cursor { at };
+    match c.read_vlq_length(s) {
+        VlqRead::Value(v, next) => {
+            *r = [v, next.at as u64];
+            0
+        }
+        VlqRead::Refused(m) => m,
+    }
+}
+
+// r is the string's place, its length and the next place.
+#[no_mangle]
+pub extern "C" fn haspeljo_read_short_string(s: &[u8], at: usize, r: &mut [u64; 3]) -> u8
+    ensures { λ n. ⌜ n ≡ numberOf (mapAnswer partOf (shortString (now (s .entry)) at)) ⌝ }
+    ensures { λ n. ⌜ now (r .exit) ≡ arrayAfter partNext (mapAnswer partOf (shortString (now (s .entry)) at)) (now (r .entry)) ⌝ }
+{
+    let c = Cursor { at };
+    match c.read_short_string(s) {
+        PartRead::Value(p, next) => {
+            *r = [p.start as u64, p.len as u64, next.at as u64];
+            0
+        }
+        PartRead::Refused(m) => m,
+    }
+}
+
+// count bytes: r is their place, their number and the next place.
+#[no_mangle]
+pub extern "C" fn haspeljo_read_part(s: &[u8], at: usize, count: usize, r: &mut [u64; 3]) -> u8
+    ensures { λ n. ⌜ n ≡ numberOf (mapAnswer partOf (part count (now (s .entry)) at)) ⌝ }
+    ensures { λ n. ⌜ now (r .exit) ≡ arrayAfter partNext (mapAnswer partOf (part count (now (s .entry)) at)) (now (r .entry)) ⌝ }
+{
+    let c = Cursor { at };
+    match c.read_part(s, count) {
+        PartRead::Value(p, next) => {
+            *r = [p.start as u64, p.len as u64, next.at as u64];
+            0
+        }
+        PartRead::Refused(m) => m,
+    }
+}
+
+// r is the place after what was written.
+#[no_mangle]
+pub extern "C" fn haspeljo_write_vlq(out: &mut [u8], at: usize, value: u64, r: &mut [u64; 1]) -> u8
+    ensures { λ n. ⌜ n ≡ writtenNumber (written [] [] (now (out .entry)) at (vlqBytes value)) ⌝ }
+    ensures { λ n. ⌜ now (r .exit) ≡ endAfter (written [] [] (now (out .entry)) at (vlqBytes value)) (now (r .entry)) ⌝ }
+    ensures { λ n. ⌜ now (out .exit) ≡ outputAfter (written [] [] (now (out .entry)) at (vlqBytes value)) (now (out .entry)) at (vlqBytes value) ⌝ }
+{
+    match vlq_write::write_vlq(out, at, value) {
+        Written::To(end) => {
+            *r = [end as u64];
+            0
+        }
+        Written::Refused(m) => m,
+    }
+}
+
+// r is the place after what was written.
+#[no_mangle]
+pub extern "C" fn haspeljo_write_short_string(out: &mut [u8], at: usize, s: &[u8], r: &mut [u64; 1]) -> u8
+    ensures { λ n. ⌜ n ≡ writtenNumber (written [] (shortStringAsked (now (s .entry))) (now (out .entry)) at (shortStringBytes (now (s .entry)))) ⌝ }
+    ensures { λ n. ⌜ now (r .exit) ≡ endAfter (written [] (shortStringAsked (now (s .entry))) (now (out .entry)) at (shortStringBytes (now (s .entry)))) (now (r .entry)) ⌝ }
+    ensures { λ n. ⌜ now (out .exit) ≡ outputAfter (written [] (shortStringAsked (now (s .entry))) (now (out .entry)) at (shortStringBytes (now (s .entry)))) (now (out .entry)) at (shortStringBytes (now (s .entry))) ⌝ }
+{
+    match vlq_write::write_short_string(out, at, s) {
+        Written::To(end) => {
+            *r = [end as u64];
+            0
+        }
+        Written::Refused(m) => m,
+    }
+}
+
+// r is the place after what was written.
+#[no_mangle]
+pub extern "C" fn haspeljo_write_part(out: &mut [u8], at: usize, s: &[u8], r: &mut [u64; 1]) -> u8
+    ensures { λ n. ⌜ n ≡ writtenNumber (written [] [] (now (out .entry)) at (now (s .entry))) ⌝ }
+    ensures { λ n. ⌜ now (r .exit) ≡ endAfter (written [] [] (now (out .entry)) at (now (s .entry))) (now (r .entry)) ⌝ }
+    ensures { λ n. ⌜ now (out .exit) ≡ outputAfter (written [] [] (now (out .entry)) at (now (s .entry))) (now (out .entry)) at (now (s .entry)) ⌝ }
+{
+    match vlq_write::write_part(out, at, s) {
+        Written::To(end) => {
+            *r = [end as u64];
+            0
+        }
+        Written::Refused(m) => m,
+    }
+}
+
+#[no_mangle]
+pub extern "C" fn haspeljo_zigzag_encode(value: i32) -> u32
+    ensures { λ r. ⌜ r ≡ zigzagEncode value ⌝ }
+{
+    zigzag::zigzag_encode(value)
+}
+
+#[no_mangle]
+pub extern "C" fn haspeljo_zigzag_decode(value: u32) -> i32
+    ensures { λ r. ⌜ r ≡ zigzagDecode value ⌝ }
+{
+    zigzag::zigzag_decode(value)
+}
+
+#[no_mangle]
+pub extern "C" fn haspeljo_zigzag_encode_i64(value: i64) -> u64
+    ensures { λ r. ⌜ r ≡ zigzagEncode value ⌝ }
+{
+    zigzag::zigzag_encode_i64(value)
+}
+
+#[no_mangle]
+pub extern "C" fn haspeljo_zigzag_decode_i64(value: u64) -> i64
+    ensures { λ r. ⌜ r ≡ zigzagDecode value ⌝ }
+{
+    zigzag::zigzag_decode_i64(value)
+}
+
+// 1 if all of s is UTF-8, otherwise 0.
+#[no_mangle]
+pub extern "C" fn haspeljo_is_utf8(s: &[u8]) -> u8
+    ensures { λ r. ⌜ r ≡ bit (utf8 (now (s .entry))) ⌝ }
+{
+    if utf8::is_utf8(s) { 1 } else { 0 }
+}
+
+// 1 if the address is bogus on mainnet, or on testnet where mainnet is 0; otherwise 0.
+#[no_mangle]
+pub extern "C" fn haspeljo_is_bogus_v4(address: u32, port: u16, mainnet: u8) -> u8
+    ensures { λ r. ⌜ r ≡ bit (bogus (V4 address port) (networkOf mainnet)) ⌝ }
+{
+    let network = network_of(mainnet);
+    if address_sanity::is_bogus_address(Address::V4(address, port), network) { 1 } else { 0 }
+}
+
+#[no_mangle]
+pub extern "C" fn haspeljo_is_bogus_v6(high: u64, low: u64, port: u16, mainnet: u8) -> u8
+    ensures { λ r. ⌜ r ≡ bit (bogus (V6 high low port) (networkOf mainnet)) ⌝ }
+{
+    let network = network_of(mainnet);
+    if address_sanity::is_bogus_address(Address::V6(high, low, port), network) { 1 } else { 0 }
+}
+
+fn network_of(mainnet: u8) -> Network
+    ensures { λ r. ⌜ r ≡ networkOf mainnet ⌝ }
+{
+    if mainnet == 0 { Network::Testnet } else { Network::Mainnet }
+}
+
+#[no_mangle]
+pub extern "C" fn haspeljo_blake2b256(s: &[u8], r: &mut [u8; 32])
+    ensures { λ n. ⌜ now (r .exit) ≡ blake2b256 (now (s .entry)) ⌝ }
+{
+    *r = blake2b::digest(s);
+}
+
+// The first four bytes of the digest.
+#[no_mangle]
+pub extern "C" fn haspeljo_frame_check(s: &[u8], r: &mut [u8; 4])
+    ensures { λ n. ⌜ now (r .exit) ≡ check (now (s .entry)) ⌝ }
+{
+    *r = blake2b::check(s);
+}

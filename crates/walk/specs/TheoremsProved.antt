@@ -1,0 +1,28 @@
+-- The theorems, from the laws of the walk, the cut rule and written sessions, and the session's readers and writers.
+use Prim.Native.Nat.{ℕ}
+use native.Mathlib.Omega.{arith}
+use Rattle.types.specs.declared.Network.{Network}
+use Rattle.walk.specs.Walk.{reading}
+use Rattle.walk.specs.Session.{sessionReading}
+use Rattle.walk.specs.Theorems.{CutAnywhere, ReadsAsWritten, OneMeaning, Ends}
+use Rattle.walk.specs.WalkLaws.{walks, walk-ends, walk-chained, walk-room}
+use Rattle.walk.specs.CutRuleLaws.{cut-rule}
+use Rattle.walk.specs.WrittenLaws.{written-reads, written-once}
+use Rattle.walk.specs.SessionLaws.{session-readers, session-writers}
+
+module _ (network : Network) (cap : ℕ) where
+  pub cut-anywhere : CutAnywhere network cap
+  unfolding sessionReading
+  cut-anywhere = cut-rule (session-readers network cap)
+
+  pub reads-as-written : ReadsAsWritten network cap
+  reads-as-written = written-reads network cap 8 (session-readers network cap) (session-writers network cap)
+
+  pub one-meaning : OneMeaning network cap
+  one-meaning = written-once network cap 8 (session-readers network cap) (session-writers network cap)
+
+  pub ends : Ends network cap
+  unfolding sessionReading reading
+  ends s =
+      let w = walks (session-readers network cap) s 0 (omega arith) in
+      (walk-ends _ w, walk-chained _ w, omega (arith, walk-room _ (omega arith) w))

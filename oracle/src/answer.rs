@@ -1,0 +1,73 @@
+//! What a function answers, on either side.
+
+use crate::case::hex;
+use std::fmt;
+
+#[derive(Clone, Debug, PartialEq, Eq)]
+pub enum Value {
+    Unsigned(u64),
+    Signed(i64),
+    /// Printed as 1 or 0.
+    Truth(bool),
+    Bytes(Vec<u8>),
+}
+
+#[derive(Clone, Debug, PartialEq, Eq)]
+pub enum Answer {
+    /// The result of a function that has no place.
+    Is(Value),
+    /// The value read, or the bytes written, and the next place.
+    Reached(Value, u64),
+    /// A refusal with document 01's number.
+    Refused(u8),
+    /// A promise that our side broke beside its answer.
+    Broken(&'static str),
+}
+
+/// The answer that a case must have.
+#[derive(Clone, Debug, PartialEq, Eq)]
+pub enum Expected {
+    /// What the Rust answers.
+    Rust(Answer),
+    /// What document 01 asks where the Rust cannot say it: not comparable.
+    Document(Answer),
+}
+
+impl Expected {
+    pub fn answer(&self) -> &Answer {
+        match self {
+            Expected::Rust(answer) | Expected::Document(answer) => answer,
+        }
+    }
+}
+
+impl fmt::Display for Value {
+    fn fmt(&self, f: &mut fmt::Formatter) -> fmt::Result {
+        match self {
+            Value::Unsigned(n) => write!(f, "{n}"),
+            Value::Signed(n) => write!(f, "{n}"),
+            Value::Truth(yes) => write!(f, "{}", *yes as u8),
+            Value::Bytes(bytes) => f.write_str(&hex(bytes)),
+        }
+    }
+}
+
+impl fmt::Display for Answer {
+    fn fmt(&self, f: &mut fmt::Formatter) -> fmt::Result {
+        match self {
+            Answer::Is(value) => write!(f, "{value}"),
+            Answer::Reached(value, next) => write!(f, "{value} {next}"),
+            Answer::Refused(number) => write!(f, "refused {number}"),
+            Answer::Broken(what) => write!(f, "broken: {what}"),
+        }
+    }
+}
+
+impl fmt::Display for Expected {
+    fn fmt(&self, f: &mut fmt::Formatter) -> fmt::Result {
+        match self {
+            Expected::Rust(answer) => write!(f, "the Rust: {answer}"),
+            Expected::Document(answer) => write!(f, "document 01: {answer}"),
+        }
+    }
+}

@@ -1,0 +1,176 @@
+//! The ported Rust's answers, with document 01's numbers and the places reached.
+//! Where the Rust cannot say what document 01 asks, document 01's answer stands in its place and
+//! is marked as such.
+
+use crate::answer::{Answer, Expected, Value};
+use crate::hashes;
+use p2p::protocol::address_sanity::is_bogus_address;
+use p2p::transport::frame::{encode, Frame};
+use p2p::transport::vlq;
+use p2p::types::Network;
+use std::io::{self, Cursor, ErrorKind, Read};
+use std::net::{IpAddr, Ipv4Addr, Ipv6Addr, SocketAddr};
+use std::string::FromUtf8Error;
+
+/// The limit on lengths and counts, in vlq.rs and in document 01.
+pub const LIMIT: u64 = 16_388_608;
+
+/// How the text of a refusal by the Rust begins, and document 01's number for it.
+const TEXTS: [(&str, u8); 2] = [("VLQ overflow", 2), ("VLQ length too large", 3)];
+
+/// Document 01's number for a refusal by the Rust.
+fn number(e: &io::Error) -> u8 {
+    if e.kind() == ErrorKind::UnexpectedEof {
+        return 1;
+    }
+    if e.get_ref().is_some_and(|inner| inner.is::<FromUtf8Error>()) {
+        return 4;
+    }
+    let text = e.to_string();
+    let found = TEXTS.iter().find(|(start, _)| text.starts_with(start));
+    found.unwrap_or_else(|| panic!("no number for the Rust's refusal: {text}")).1
+}
+
+fn refused(n: u8) -> Expected {
+    Expected::Document(Answer::Refused(n))
+}
+
+/// A reader of the Rust at a place. The Rust has no word for a place past the length.
+fn read<R>(s: &[u8], at: u64, reader: R) -> Expected
+where
+    R: FnOnce(&mut Cursor<&[u8]>) -> io::Result<Value>,
+{
+    if at > s.len() as u64 {
+        return refused(12);
+    }
+    let mut cursor = Cursor::new(s);
+    cursor.set_position(at);
+    Expected::Rust(match reader(&mut cursor) {
+        Ok(value) => Answer::Reached(value, cursor.position()),
+        Err(e) => Answer::Refused(number(&e)),
+    })
+}
+
+pub fn read_byte(s: &[u8], at: u64) -> Expected {
+    read(s, at, |cursor| {
+        let mut byte = [0u8; 1];
+        cursor.read_exact(&mut byte)?;
+        Ok(Value::Unsigned(byte[0].into()))
+    })
+}
+
+pub fn read_vlq(s: &[u8], at: u64) -> Expected {
+    read(s, at, |cursor| vlq::read_vlq(cursor).map(Value::Unsigned))
+}
+
+pub fn read_vlq_length(s: &[u8], at: u64) -> Expected {
+    read(s, at, |cursor| vlq::read_vlq_length(cursor).map(|n| Value::Unsigned(n as u64)))
+}
+
+pub fn read_short_string(s: &[u8], at: u64) -> Expected {
+    read(s, at, |cursor| vlq::read_short_string(cursor).map(|t| Value::Bytes(t.into_bytes())))
+}
+
+/// The Rust reads n bytes into room that it makes first, so it is asked up to the limit only.
+pub fn read_part(s: &[u8], at: u64, n: u64) -> Expected {
+    if n > LIMIT {
+        return refused(if at > s.len() as u64 { 12 } else { 1 });
+    }
+    read(s, at, |cursor| {
+        let mut part = vec![0u8; n as usize];
+        cursor.read_exact(&mut part)?;
+        Ok(Value::Bytes(part))
+    })
+}
+
+/// A writer of the Rust after `at` bytes. It refuses nothing, so 12 and 14 are document 01's.
+fn write(room: u64, at: u64, writer: impl FnOnce(&mut Vec<u8>)) -> Expected {
+    if at > room {
+        return refused(12);
+    }
+    let mut out = vec![0; at as usize];
+    writer(&mut out);
+    let end = out.len() as u64;
+    if end > room {
+        return refused(14);
+    }
+    Expected::Rust(Answer::Reached(Value::Bytes(out.split_off(at as usize)), end))
+}
+
+pub fn write_vlq(room: u64, at: u64, value: u64) -> Expected {
+    write(room, at, |out| vlq::write_vlq(out, value))
+}
+
+/// The Rust takes UTF-8 of at most 255 bytes; 13 and 4 are document 01's.
+pub fn write_short_string(room: u64, at: u64, s: &[u8]) -> Expected {
+    if at > room {
+        return refused(12);
+    }
+    if s.len() > 255 {
+        return refused(13);
+    }
+    match std::str::from_utf8(s) {
+        Ok(text) => write(room, at, |out| vlq::write_short_string(out, text)),
+        Err(_) => refused(4),
+    }
+}
+
+pub fn write_part(room: u64, at: u64, s: &[u8]) -> Expected {
+    write(room, at, |out| out.extend_from_slice(s))
+}
+
+fn is(value: Value) -> Expected {
+    Expected::Rust(Answer::Is(value))
+}
+
+pub fn zigzag_encode(n: i32) -> Expected {
+    is(Value::Unsigned(vlq::zigzag_encode(n).into()))
+}
+
+pub fn zigzag_decode(n: u32) -> Expected {
+    is(Value::Signed(vlq::zigzag_decode(n).into()))
+}
+
+pub fn zigzag_encode_i64(n: i64) -> Expected {
+    is(Value::Unsigned(vlq::zigzag_encode_i64(n)))
+}
+
+pub fn zigzag_decode_i64(n: u64) -> Expected {
+    is(Value::Signed(vlq::zigzag_decode_i64(n)))
+}
+
+pub fn is_utf8(s: &[u8]) -> Expected {
+    is(Value::Truth(std::str::from_utf8(s).is_ok()))
+}
+
+/// The address is its bytes as a big-endian number; any `mainnet` but 0 is mainnet.
+pub fn is_bogus_v4(address: u32, port: u16, mainnet: u8) -> Expected {
+    is_bogus(Ipv4Addr::from(address).into(), port, mainnet)
+}
+
+/// The address is its bytes as two big-endian numbers; any `mainnet` but 0 is mainnet.
+pub fn is_bogus_v6(high: u64, low: u64, port: u16, mainnet: u8) -> Expected {
+    is_bogus(Ipv6Addr::from((high as u128) << 64 | low as u128).into(), port, mainnet)
+}
+
+fn is_bogus(ip: IpAddr, port: u16, mainnet: u8) -> Expected {
+    let network = if mainnet == 0 { Network::Testnet } else { Network::Mainnet };
+    is(Value::Truth(is_bogus_address(SocketAddr::new(ip, port), network)))
+}
+
+/// The six files hold no hash; three implementations must agree on it.
+pub fn blake2b256(s: &[u8]) -> Expected {
+    let hash = hashes::blake2b_simd(s);
+    assert_eq!(hash, hashes::blake2_rfc(s), "blake2-rfc differs from blake2b_simd");
+    assert_eq!(hash, hashes::libb2(s), "libb2 differs from blake2b_simd");
+    is(Value::Bytes(hash.to_vec()))
+}
+
+/// The check that the Rust writes into a frame; into an empty one it writes none.
+pub fn frame_check(s: &[u8]) -> Expected {
+    if s.is_empty() {
+        return Expected::Document(Answer::Is(Value::Bytes(hashes::blake2b_simd(s)[..4].to_vec())));
+    }
+    let frame = encode(&Network::Mainnet.magic(), &Frame { code: 0, body: s.to_vec() });
+    is(Value::Bytes(frame[9..13].to_vec()))
+}
