@@ -13,9 +13,12 @@ ghost use Rattle.types.specs.declared.Address.the-variants.{V4, V6};
 ghost use Rattle.address_sanity.specs.Bogus.{bogus};
 ghost use Rattle.blake2b.specs.Blake2b.{blake2b256, check};
 ghost use Rattle.exports.specs.Results.{numberOf, arrayAfter, valueNext, partNext, writtenNumber, endAfter, bit, networkOf};
-
-use types::{Address, Network};
-use vlq::{ByteRead, Cursor, PartRead, VlqRead};
+use types::Address;
+use types::Network;
+use vlq::ByteRead;
+use vlq::Cursor;
+use vlq::PartRead;
+use vlq::VlqRead;
 use wire::Written;
 
 // r is the value and the next place.
@@ -116,7 +119,12 @@ pub extern "C" fn haspeljo_write_vlq(out: &mut [u8], at: usize, value: u64, r: &
 
 // r is the place after what was written.
 #[no_mangle]
-pub extern "C" fn haspeljo_write_short_string(out: &mut [u8], at: usize, s: &[u8], r: &mut [u64; 1]) -> u8
+pub extern "C" fn haspeljo_write_short_string(
+    out: &mut [u8],
+    at: usize,
+    s: &[u8],
+    r: &mut [u64; 1],
+) -> u8
     ensures { λ n. ⌜ n ≡ writtenNumber (written [] (shortStringAsked (now (s .entry))) (now (out .entry)) at (shortStringBytes (now (s .entry)))) ⌝ }
     ensures { λ n. ⌜ now (r .exit) ≡ endAfter (written [] (shortStringAsked (now (s .entry))) (now (out .entry)) at (shortStringBytes (now (s .entry)))) (now (r .entry)) ⌝ }
     ensures { λ n. ⌜ now (out .exit) ≡ outputAfter (written [] (shortStringAsked (now (s .entry))) (now (out .entry)) at (shortStringBytes (now (s .entry)))) (now (out .entry)) at (shortStringBytes (now (s .entry))) ⌝ }
@@ -188,7 +196,11 @@ pub extern "C" fn haspeljo_is_bogus_v4(address: u32, port: u16, mainnet: u8) -> 
     ensures { λ r. ⌜ r ≡ bit (bogus (V4 address port) (networkOf mainnet)) ⌝ }
 {
     let network = network_of(mainnet);
-    if address_sanity::is_bogus_address(Address::V4(address, port), network) { 1 } else { 0 }
+    if address_sanity::is_bogus_address(Address::V4(address, port), network) {
+        1
+    } else {
+        0
+    }
 }
 
 #[no_mangle]
@@ -196,13 +208,21 @@ pub extern "C" fn haspeljo_is_bogus_v6(high: u64, low: u64, port: u16, mainnet: 
     ensures { λ r. ⌜ r ≡ bit (bogus (V6 high low port) (networkOf mainnet)) ⌝ }
 {
     let network = network_of(mainnet);
-    if address_sanity::is_bogus_address(Address::V6(high, low, port), network) { 1 } else { 0 }
+    if address_sanity::is_bogus_address(Address::V6(high, low, port), network) {
+        1
+    } else {
+        0
+    }
 }
 
 fn network_of(mainnet: u8) -> Network
     ensures { λ r. ⌜ r ≡ networkOf mainnet ⌝ }
 {
-    if mainnet == 0 { Network::Testnet } else { Network::Mainnet }
+    if mainnet == 0 {
+        Network::Testnet
+    } else {
+        Network::Mainnet
+    }
 }
 
 #[no_mangle]

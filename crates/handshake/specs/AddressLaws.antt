@@ -19,13 +19,7 @@ use Rattle.vlq.specs.VlqLaws.{reads-vlq}
 use Rattle.types.specs.declared.Address.{Address}
 use Rattle.types.specs.declared.Address.the-variants.{None, V4, V6}
 use Rattle.handshake.specs.Entry.{addressOf, address, addressIf}
-use Rattle.handshake.specs.Value.{addressBytes}
-
--- the numbers of an address are a u32, or two u64, and a u16
-unfoldable pub AddressTyped : Address → Type 0
-AddressTyped None = Unit {0}
-AddressTyped (V4 ip port) = (ip < 2 ^ 32) × (port < 2 ^ 16)
-AddressTyped (V6 high low port) = (high < 2 ^ 64) × (low < 2 ^ 64) × (port < 2 ^ 16)
+use Rattle.handshake.specs.Value.{AddressTyped, addressBytes}
 
 -- ---- an address that was written is read back
 

@@ -1,6 +1,6 @@
 -- Entries and handshakes by value: what a reading says apart from its places, the bytes of a value (document 01, "Entries and handshakes"),
 -- and the questions a writer asks of the values (document 01, "Questions", Writers, from 13 on).
-use Prim.Native.Nat.{ℕ}
+use Prim.Native.Nat.{ℕ, _^_, _<_}
 use mathlib.Core.Bool.{Bool, _&&_}
 use mathlib.Core.List.{List, [], _∷_, _++_, map, flatMap}
 use lib.Dec.{leb}
@@ -31,6 +31,12 @@ pub record EntryValue : Type 0 where
 pub record HandshakeValue : Type 0 where
   pub timestamp : ℕ
   pub entry : EntryValue
+
+-- the numbers of an address are in the range of their types
+unfoldable pub AddressTyped : Address → Type 0
+AddressTyped None = Unit {0}
+AddressTyped (V4 ip port) = (ip < 2 ^ 32) × (port < 2 ^ 16)
+AddressTyped (V6 high low port) = (high < 2 ^ 64) × (low < 2 ^ 64) × (port < 2 ^ 16)
 
 -- what a reading says
 unfoldable pub featureValue : EntryFeature → FeatureValue

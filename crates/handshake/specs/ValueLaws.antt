@@ -23,8 +23,8 @@ use Rattle.vlq.specs.VlqLaws.{reads-vlq, reads-vlqLength}
 use Rattle.vlq.specs.ShortStringLaws.{reads-shortString}
 use Rattle.types.specs.declared.Version.{Version}
 use Rattle.handshake.specs.Entry.{version, address, EntryFeature, feature, Entry, entry, handshake}
-use Rattle.handshake.specs.AddressLaws.{AddressTyped, reads-flagged}
-use Rattle.handshake.specs.Value.{FeatureValue, EntryValue, HandshakeValue, featureValue, entryValue, handshakeValue, featureBytes, versionBytes, entryBytes, handshakeBytes, utf8Strings, lengthsWithin, entriesAsked}
+use Rattle.handshake.specs.AddressLaws.{reads-flagged}
+use Rattle.handshake.specs.Value.{AddressTyped, FeatureValue, EntryValue, HandshakeValue, featureValue, entryValue, handshakeValue, featureBytes, versionBytes, entryBytes, handshakeBytes, utf8Strings, lengthsWithin, entriesAsked}
 
 -- ---- the values that read back
 

@@ -9,9 +9,8 @@ use Rattle.wire.specs.Output.{Question}
 use Rattle.wire.specs.OutputLaws.{AllHold, written-accepted}
 use Rattle.wire.specs.ReadsBack.{ReadsBack}
 use Rattle.wire.specs.declared.Written.the-variants.{To}
-use Rattle.handshake.specs.AddressLaws.{AddressTyped}
 use Rattle.handshake.specs.Entry.{handshake}
-use Rattle.handshake.specs.Value.{handshakeValue, handshakeBytes}
+use Rattle.handshake.specs.Value.{AddressTyped, handshakeValue, handshakeBytes}
 use Rattle.handshake.specs.ValueLaws.{reads-handshake, Holds, asked-writable-one}
 use Rattle.handshake_write.specs.Tables.{Lent, entryRow}
 use Rattle.handshake_write.specs.TablesLaws.{row-numbers, row-inside, row-address}

@@ -16,8 +16,7 @@ use Rattle.wire.specs.ReadsBack.{ReadsBack}
 use Rattle.wire.specs.ReadsBackLaws.{bytesOf, stands-whole, reads-pure, reads-guard, reads-then, reads-last, reads-byte, reads-part, reads-part-of}
 use Rattle.vlq.specs.Vlq.{limit, vlqBytes}
 use Rattle.vlq.specs.VlqLaws.{reads-vlqLength}
-use Rattle.handshake.specs.Value.{EntryValue, entryBytes, entriesAsked}
-use Rattle.handshake.specs.AddressLaws.{AddressTyped}
+use Rattle.handshake.specs.Value.{AddressTyped, EntryValue, entryBytes, entriesAsked}
 use Rattle.handshake.specs.ValueLaws.{Writable, reads-entry, Holds, asked-writable}
 use Rattle.messages.specs.Message.{Payload, Message, getPeers, peers, modifierRequest, modifierResponse, inv, syncInfo, unknown, maxInvObjects, count, ids, total, payload, payloads, peersBody, whole, message}
 use Rattle.messages.specs.Value.{PayloadValue, MessageValue, getPeersValue, peersValue, modifierRequestValue, modifierResponseValue, invValue, syncInfoValue, unknownValue, payloadValue, messageValue, codeOf, idsBytes, payloadBytes, bodyBytes, entriesOf, payloadsWithin, countWithin, unknownCode, codeFree, messageAsked}

@@ -12,8 +12,7 @@ use Rattle.wire.specs.OutputLaws.{written-accepted}
 use Rattle.wire.specs.declared.Written.the-variants.{To}
 use Rattle.vlq.specs.Vlq.{limit}
 use Rattle.types.specs.declared.Network.{Network}
-use Rattle.handshake.specs.AddressLaws.{AddressTyped}
-use Rattle.handshake.specs.Value.{EntryValue, entriesAsked}
+use Rattle.handshake.specs.Value.{AddressTyped, EntryValue, entriesAsked}
 use Rattle.handshake.specs.ValueLaws.{Holds}
 use Rattle.handshake_write.specs.Tables.{Lent, entryRows, bytesAt, entryOf, entriesOf, tablesWhole, entryNumbers, inside, entryInside}
 use Rattle.handshake_write.specs.TablesLaws.{length-bytesAt, whole-entries, row-address}

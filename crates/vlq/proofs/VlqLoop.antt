@@ -98,28 +98,29 @@ module _ {s : List ℕ} {at₀ at sum weight i : ℕ} (inv : VlqSoFar s at₀ at
   vlq-end b e h hb hi =
       let f : (sum + b * weight) % 2 ^ 64 ≡ sum + b * weight = mod-eq-of-lt (omega (arith, vlq-fits b hi hb)) in
       let r : added (10 - i) sum weight s at ≡ got ((sum + getD s at 0 * weight) % 2 ^ 64) (at + 1)
-        = added-last (10 - i) sum weight s at (omega arith) h (omega arith) in
+      = added-last (10 - i) sum weight s at (omega arith) h (omega arith) in
       cc (inv .same)
 
   pub vlq-again : (b : ℕ) → b ≡ getD s at 0 → at < length s → 0x80 ≤ b → i < 9
-    → VlqSoFar s at₀ (at + 1) (sum + (b % 0x80) * weight) (weight * 0x80) (i + 1)
+      → VlqSoFar s at₀ (at + 1) (sum + (b % 0x80) * weight) (weight * 0x80) (i + 1)
   vlq-again b e h hb hi = record {
-      few = omega arith;
-      inside = omega arith;
-      power = rw (add-one, pow-suc) (ap (λ (m : ℕ). m * 0x80) (inv .power));
-      below = omega (arith, mul-le-mul-right {m = b % 0x80} {n = 0x7f} weight (omega arith), inv .below);
-      same =
+    few = omega arith;
+    inside = omega arith;
+    power = rw (add-one, pow-suc) (ap (λ (m : ℕ). m * 0x80) (inv .power));
+    below = omega (arith, mul-le-mul-right {m = b % 0x80} {n = 0x7f} weight (omega arith), inv .below);
+    same =
         let f : 10 - i ≡ suc (9 - i) = omega arith in
         let g : 10 - (i + 1) ≡ 9 - i = omega arith in
         let r : added (suc (9 - i)) sum weight s at ≡ added (9 - i) (sum + (getD s at 0 % 0x80) * weight) (weight * 0x80) s (at + 1)
-          = added-more (9 - i) sum weight s at h (omega arith) in
-        cc (inv .same) }
+        = added-more (9 - i) sum weight s at h (omega arith) in
+        cc (inv .same);
+  }
 
   pub vlq-tenth : (b : ℕ) → b ≡ getD s at 0 → at < length s → b < 0x80 → 9 ≤ i → got (sum + (b % 2) * weight) (at + 1) ≡ vlq s at₀
   vlq-tenth b e h hb hi =
       let w : weight ≡ 2 ^ 63 = vlq-tenth-weight hi in
       let r : added (10 - i) sum weight s at ≡ got ((sum + getD s at 0 * weight) % 2 ^ 64) (at + 1)
-        = added-last (10 - i) sum weight s at (omega (arith, inv .few)) h (omega arith) in
+      = added-last (10 - i) sum weight s at (omega (arith, inv .few)) h (omega arith) in
       cc (inv .same, tenth sum b (vlq-tenth-below hi))
 
   pub vlq-long : (b : ℕ) → b ≡ getD s at 0 → at < length s → 0x80 ≤ b → 9 ≤ i → refused 2 ≡ vlq s at₀

@@ -4,7 +4,6 @@ ghost use Rattle.wire.specs.Reader.{byte, part, partOf, mapAnswer};
 ghost use Rattle.vlq.specs.Vlq.{vlq, vlqLength};
 ghost use Rattle.vlq.specs.ShortString.{string, shortString};
 ghost use Rattle.vlq.specs.Answers.{byteAnswer, vlqAnswer, partAnswer};
-
 use wire::Part;
 
 // A place in the bytes that are read. Each step hands the moved cursor back.

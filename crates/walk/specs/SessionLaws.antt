@@ -14,10 +14,7 @@ use Rattle.wire.specs.ReadsBack.{StandsAt, ReadsBack}
 use Rattle.wire.specs.declared.Written.the-variants.{To}
 use Rattle.wire.specs.Stable.{Beyond, CutTo, kept, own, short}
 use Rattle.vlq.specs.Vlq.{limit}
-use Rattle.types.specs.declared.Address.{Address}
-use Rattle.types.specs.declared.Address.the-variants.{None, V4, V6}
 use Rattle.types.specs.declared.Network.{Network}
-use Rattle.handshake.specs.AddressLaws as Handshakes
 use Rattle.handshake.specs.Entry.{EntryHandshake, handshake}
 use Rattle.handshake.specs.EntryLaws.{stable-handshake, least-handshake}
 use Rattle.handshake.specs.Value.{HandshakeValue, handshakeValue, handshakeBytes}
@@ -35,7 +32,7 @@ use Rattle.walk.specs.Walk.{Opened, opened, isCut}
 use Rattle.walk.specs.WalkLaws as Laws
 use Rattle.walk.specs.WalkLaws.{Past, OpenedCut, openAt, ReaderLaws}
 use Rattle.walk.specs.Session.{Content, handshakeItem, messageItem, frameItem, handshakeAt, messageAt}
-use Rattle.walk.specs.WrittenSession.{Write, writeHandshake, writeBuilt, writeMessage, handshakeOf, messageOf, writeValue, fieldsValue, bytesTyped, AddressTyped, MessageTyped, Typed, said, writeBytes, isHandshake}
+use Rattle.walk.specs.WrittenSession.{Write, writeHandshake, writeBuilt, writeMessage, handshakeOf, messageOf, writeValue, fieldsValue, bytesTyped, MessageTyped, Typed, said, writeBytes, isHandshake}
 use Rattle.walk.specs.WrittenLaws.{Opens, WriterLaws}
 
 -- ---- the readers
@@ -128,12 +125,6 @@ module _ (network : Network) (cap : ℕ) where
 
 -- ---- the writers
 
-address-typed : (a : Address) → AddressTyped a → Handshakes.AddressTyped a
-unfolding AddressTyped Handshakes.AddressTyped
-address-typed None h = h
-address-typed (V4 ip port) h = h
-address-typed (V6 high low port) h = h
-
 peers-typed : (w : MessageWrite) → MessageTyped w → PeersTyped w
 unfolding MessageTyped bytesTyped
 peers-typed w h l e = rw e at h
@@ -182,7 +173,7 @@ module _ (network : Network) (cap : ℕ) where
   write-reads (writeHandshake timestamp l k) out at end typed q =
       handshake-opens _ (handshake-reads-back timestamp l k out at end (typed .0) (typed .1) q)
   write-reads (writeBuilt c) out at end typed q =
-      handshake-opens (built c) (built-reads-back c out at end (typed .0) (address-typed (c .address) (typed .1)) q)
+      handshake-opens (built c) (built-reads-back c out at end (typed .0) (typed .1) q)
   write-reads (writeMessage w) out at end typed q =
       let r = message-reads-back network cap w out at end (peers-typed w typed) q in
       message-opens (valueOf w) (r .0) (r .1)

@@ -10,9 +10,7 @@ use Rattle.wire.specs.Output.{outputAfter}
 use Rattle.wire.specs.declared.Written.{Written}
 use Rattle.wire.specs.declared.Written.the-variants.{To, Refused}
 use Rattle.types.specs.declared.Network.{Network}
-use Rattle.types.specs.declared.Address.{Address}
-use Rattle.types.specs.declared.Address.the-variants.{None, V4, V6}
-use Rattle.handshake.specs.Value.{HandshakeValue, handshakeValue, handshakeBytes}
+use Rattle.handshake.specs.Value.{AddressTyped, HandshakeValue, handshakeValue, handshakeBytes}
 use Rattle.handshake_write.specs.Tables.{Lent}
 use Rattle.handshake_write.specs.Writes.{Config, built, builtWritten, handshakeAt, handshakeWritten}
 use Rattle.messages.specs.Value.{MessageValue, messageValue}
@@ -46,11 +44,6 @@ fieldsValue (messageFields code start m) = messageOf (messageValue code m)
 
 unfoldable pub bytesTyped : List ℕ → Bool
 bytesTyped l = every (λ b. ltb b 256) l
-
-unfoldable pub AddressTyped : Address → Type 0
-AddressTyped None = Unit {0}
-AddressTyped (V4 ip port) = (ip < 2 ^ 32) × (port < 2 ^ 16)
-AddressTyped (V6 high low port) = (high < 2 ^ 64) × (low < 2 ^ 64) × (port < 2 ^ 16)
 
 unfoldable pub MessageTyped : MessageWrite → Type 0
 MessageTyped (Messages.writePeers l) = bytesTyped (l .buffer) ≡ true

@@ -76,10 +76,11 @@ module _ {A : Type 0} {p : A → Reader A} {s : List ℕ} {n : ℕ} {a₀ : A} {
   pub fold-turn : {b : A} {next : ℕ} → k < n → p a s at ≡ got b next → FoldSoFar p s n a₀ at₀ b next (k + 1)
   unfolding fold
   fold-turn {b} {next} h q = record {
-      within = omega arith;
-      same =
+    within = omega arith;
+    same =
         let g : fold (suc (n - (k + 1))) p a s at ≡ fold (n - (k + 1)) p b s next = rw q in
-        inv .same ∙ rw (one-less h) g }
+        inv .same ∙ rw (one-less h) g;
+  }
 
   pub fold-refused : {m : ℕ} → k < n → p a s at ≡ refused m → refused m ≡ fold n p a₀ s at₀
   unfolding fold

@@ -29,12 +29,13 @@ module _ {s : List ℕ} {at : ℕ} (a b : List ℕ) (h : StandsAt s at (a ++ b))
 
   pub stands-right : StandsAt s (at + length a) b
   stands-right = record {
-      within = omega (arith, long);
-      bytes =
+    within = omega (arith, long);
+    bytes =
         let e : take (length a) (drop at s) ++ take (length b) (drop (length a) (drop at s)) ≡ a ++ b = sym (take-add (length a) (length b) (drop at s)) ∙ both in
         let f : a ++ take (length b) (drop (length a) (drop at s)) ≡ a ++ b = ap (λ (l : List ℕ). l ++ take (length b) (drop (length a) (drop at s))) (sym left) ∙ e in
         ap (take (length b)) (sym (drop-drop (length a) at s))
-        ∙ sym (drop-append-seam a (take (length b) (drop (length a) (drop at s)))) ∙ ap (drop (length a)) f ∙ drop-append-seam a b }
+        ∙ sym (drop-append-seam a (take (length b) (drop (length a) (drop at s)))) ∙ ap (drop (length a)) f ∙ drop-append-seam a b;
+  }
 
 -- all the bytes stand in themselves
 pub stands-whole : (s : List ℕ) → StandsAt s 0 s
@@ -77,18 +78,22 @@ reads-last {w = w} hp hf = rw append-nil at (reads-then {w′ = []} hp hf)
 -- ---- fields
 
 pub reads-byte : (b : ℕ) → ReadsBack byte (λ x. x) (b ∷ []) b
-reads-byte b = record { reads = λ s at h.
-    let l : at < length s = omega (arith, h .within) in
-    let e : getD s at 0 ∷ take 0 (drop (suc at) s) ≡ b ∷ [] = ap (take 1) (sym (drop-cons s at 0 l)) ∙ h .bytes in
-    (getD s at 0, byte-got s at l, cc) }
+reads-byte b = record {
+  reads = λ s at h.
+      let l : at < length s = omega (arith, h .within) in
+      let e : getD s at 0 ∷ take 0 (drop (suc at) s) ≡ b ∷ [] = ap (take 1) (sym (drop-cons s at 0 l)) ∙ h .bytes in
+      (getD s at 0, byte-got s at l, cc);
+}
 
 -- the value of a segment is its bytes
 abbrev pub bytesOf : Segment → List ℕ
 bytesOf g = g .bytes
 
 pub reads-part : (w : List ℕ) → ReadsBack (part (length w)) bytesOf w w
-reads-part w = record { reads = λ s at h.
-    (record { start = at; bytes = take (length w) (drop at s) }, part-got (length w) s at (h .within), h .bytes) }
+reads-part w = record {
+  reads = λ s at h.
+      (record { start = at; bytes = take (length w) (drop at s) }, part-got (length w) s at (h .within), h .bytes);
+}
 
 pub reads-part-of : (n : ℕ) (w : List ℕ) → length w ≡ n → ReadsBack (part n) bytesOf w w
 reads-part-of n w e = rw (sym e) (reads-part w)

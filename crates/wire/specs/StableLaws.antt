@@ -54,8 +54,9 @@ module _ {A B : Type 0} {isCut : ℕ → Bool} (f : A → Reader B) (hf : (a : A
 pub stable-then : {A B : Type 0} {isCut : ℕ → Bool} {p : Reader A} {f : A → Reader B} → Stable isCut p → ((a : A) → Stable isCut (f a))
     → Stable isCut (andThen p f)
 stable-then {p = p} {f = f} hp hf = record {
-    moves = λ s at b e h q. bind-moves f hf s at (p s at) (λ a d r. (hp .moves s at a d h r, stable-ends hp s at a d h r)) b e q;
-    cut = λ s at k h u. bind-cut f hf s k u (λ a e q. stable-ends hp s at a e (omega arith) q) (hp .cut s at k h u) }
+  moves = λ s at b e h q. bind-moves f hf s at (p s at) (λ a d r. (hp .moves s at a d h r, stable-ends hp s at a d h r)) b e q;
+  cut = λ s at k h u. bind-cut f hf s k u (λ a e q. stable-ends hp s at a e (omega arith) q) (hp .cut s at k h u);
+}
 
 module _ {A : Type 0} {isCut : ℕ → Bool} where
   pub stable-pure : (a : A) → Stable isCut (pure a)
@@ -96,8 +97,9 @@ module _ {A : Type 0} (m n : ℕ) (v : List ℕ → ℕ → A) where
 
   pub stable-field : {isCut : ℕ → Bool} → T (isCut m) → Local n v → Stable isCut (field m n v)
   stable-field {isCut} t l = record {
-      moves = λ s at a e h q. omega (arith, field-end s at a e h q);
-      cut = λ s at k h u. side s at k h u (decLe (at + n) k) (decLe (at + n) (length s)) }
+    moves = λ s at a e h q. omega (arith, field-end s at a e h q);
+    cut = λ s at k h u. side s at k h u (decLe (at + n) k) (decLe (at + n) (length s));
+  }
     where
       side : (s : List ℕ) (at k : ℕ) → at ≤ k → k ≤ length s → Dec (at + n ≤ k) → Dec (at + n ≤ length s)
           → CutTo isCut k (field m n v s at) (field m n v (take k s) at)
@@ -156,7 +158,7 @@ least-then {A} {B} {isCut} {p} {f} m n hp lp lf =
     record { moves = λ s at b e h q. go s at (p s at) (λ a d r. (lp .moves s at a d h r, stable-ends hp s at a d h r)) b e q }
   where
     go : (s : List ℕ) (at : ℕ) (r : Answer A) → ((a : A) (e : ℕ) → r ≡ got a e → (at + m ≤ e) × (e ≤ length s)) → (b : B) (e : ℕ)
-      → bind r (λ a next. f a s next) ≡ got b e → at + (m + n) ≤ e
+        → bind r (λ a next. f a s next) ≡ got b e → at + (m + n) ≤ e
     go s at (got a d) w b e q =
         let u = w a d refl in
         let v : d + n ≤ e = lf a .moves s d b e (u .1) q in

@@ -1,0 +1,30 @@
+-- `vlq_write::put_short_string` meets its contract: the length byte was stored, then the part.
+use native.Mathlib.Omega.{arith}
+use mathlib.Core.Path.{_∙_}
+use lib.ListN.{length, length-set}
+use borrow.Author.Needs.{needs}
+use Rattle.wire.specs.OutputLaws.{wrote-byte, wrote-then, wrote-length}
+use Rattle.vlq_write.proofs.put_short_string.Statement.{statement}
+use Rattle.vlq_write.proofs.put_short_string.Tie as tie
+
+put-part-requires : tie.Need-put-part-requires
+put-part-requires c κs = simp length-set (omega arith)
+
+same-length : tie.Need-same-length
+same-length c = wrote-length (c .before .before .put-part .ensures) ∙ simp length-set
+
+returns : tie.Need-returns
+returns c =
+    let a = c .before .before .before .before .before .before .args in
+    wrote-then (wrote-byte (a .out .now) (a .at) (length (a .s .now))) (c .before .before .put-part .ensures)
+
+pub put-short-string-spec : {M : Type 1} → statement M
+put-short-string-spec =
+    tie.close
+    (tie.spec
+    (λ c. search needs)
+    (λ c. search needs)
+    (λ c. search needs)
+    put-part-requires
+    same-length
+    returns)

@@ -1,0 +1,36 @@
+-- A checked writer asks by sizes alone and stores once every question holds. What it says and leaves is then what `written` and `outputAfter` say.
+use Prim.Native.Nat.{ℕ, _+_, _≤_}
+use native.Mathlib.Omega.{arith}
+use mathlib.Core.List.{List}
+use mathlib.Core.Path.{_≡_, sym, _∙_}
+use lib.ListN.{length}
+use Rattle.wire.specs.declared.Written.{Written}
+use Rattle.wire.specs.declared.Written.the-variants.{To, Refused}
+use Rattle.wire.specs.Output.{Question, written, outputAfter}
+use Rattle.wire.specs.OutputLaws.{Wrote, AllHold, Accepted, written-to, written-accepted}
+use Rattle.vlq_write.specs.Asked.{writtenFor}
+
+module _ (before after : List Question) (out : List ℕ) (at : ℕ) (bs : List ℕ) {r : Written} where
+  module _ (says : r ≡ writtenFor before after (length out) at (length bs)) where
+    pub said : r ≡ written before after out at bs
+    unfolding written
+    said = says
+
+    pub accepted : {e : ℕ} → r ≡ To e → Accepted before after out at bs e
+    accepted {e} p = written-accepted before after out at bs e (sym said ∙ p)
+
+    pub stored : {e n : ℕ} {last : List ℕ} → r ≡ To e → Wrote out at bs n last → (r ≡ written before after out at bs) × (last ≡ outputAfter r out at bs)
+    unfolding outputAfter
+    stored p w = (said, rw p (w .bytes))
+
+    pub kept : {m : ℕ} → r ≡ Refused m → (r ≡ written before after out at bs) × (out ≡ outputAfter r out at bs)
+    unfolding outputAfter
+    kept p = (said, rw p)
+
+  -- a caller whose questions hold and who has room is not refused
+  pub not-refused : {P : Type 0} {m : ℕ} → r ≡ written before after out at bs → AllHold before → AllHold after → at + length bs ≤ length out
+      → r ≡ Refused m → P
+  not-refused says f t h p =
+      let q = written-to before after out at bs f t h in
+      let z : _≡_ {A = ℕ} 0 1 = cc in
+      absurd (omega arith)

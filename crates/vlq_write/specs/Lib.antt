@@ -1,0 +1,4 @@
+pub mod Asked
+pub mod CheckedLaws
+pub mod WrittenLaws
+pub mod Cases

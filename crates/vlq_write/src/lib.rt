@@ -1,0 +1,143 @@
+// VLQs, short strings, parts and bytes, written into a lent output from a place (transport/vlq.rs).
+// Each writer asks its questions first and stores only once all are answered "yes".
+ghost use mathlib.Core.Path.{_≡_};
+ghost use mathlib.Core.List.{[], _∷_};
+ghost use Prim.Native.Nat.{_+_, _≤_};
+ghost use lib.ListN.{length};
+ghost use Rattle.wire.specs.Output.{written, outputAfter};
+ghost use Rattle.wire.specs.OutputLaws.{Wrote};
+ghost use Rattle.vlq.specs.Vlq.{vlqBytes};
+ghost use Rattle.vlq.specs.ShortString.{shortStringBytes};
+ghost use Rattle.vlq_write.specs.Asked.{shortStringAsked, writtenFor};
+use wire::Written;
+
+// How many bytes the shortest VLQ of v has.
+pub fn vlq_len(v: u64) -> usize
+    ensures { λ r. ⌜ r ≡ length (vlqBytes v) ⌝ }
+{
+    let mut n: usize = 1;
+    let mut rest = v;
+    while 0x80 <= rest {
+        n += 1;
+        rest = rest / 0x80;
+    }
+    n
+}
+
+// The shortest VLQ of value.
+pub fn write_vlq(out: &mut [u8], at: usize, value: u64) -> Written
+    ensures { λ r. ⌜ r ≡ written [] [] (now (out .entry)) at (vlqBytes value) ⌝ }
+    ensures { λ r. ⌜ now (out .exit) ≡ outputAfter r (now (out .entry)) at (vlqBytes value) ⌝ }
+{
+    let answer = ask_room(out.len(), at, vlq_len(value));
+    if let Written::To(_) = answer {
+        put_vlq(out, at, value);
+    }
+    answer
+}
+
+// All bytes of s.
+pub fn write_part(out: &mut [u8], at: usize, s: &[u8]) -> Written
+    ensures { λ r. ⌜ r ≡ written [] [] (now (out .entry)) at (now (s .entry)) ⌝ }
+    ensures { λ r. ⌜ now (out .exit) ≡ outputAfter r (now (out .entry)) at (now (s .entry)) ⌝ }
+{
+    let answer = ask_room(out.len(), at, s.len());
+    if let Written::To(_) = answer {
+        put_part(out, at, s);
+    }
+    answer
+}
+
+// A length byte, then the bytes of s, which are UTF-8.
+pub fn write_short_string(out: &mut [u8], at: usize, s: &[u8]) -> Written
+    ensures { λ r. ⌜ r ≡ written [] (shortStringAsked (now (s .entry))) (now (out .entry)) at (shortStringBytes (now (s .entry))) ⌝ }
+    ensures { λ r. ⌜ now (out .exit) ≡ outputAfter r (now (out .entry)) at (shortStringBytes (now (s .entry))) ⌝ }
+{
+    let answer = ask_short_string(out.len(), at, s);
+    if let Written::To(_) = answer {
+        put_short_string(out, at, s);
+    }
+    answer
+}
+
+// A byte.
+pub fn write_byte(out: &mut [u8], at: usize, b: u8) -> Written
+    ensures { λ r. ⌜ r ≡ written [] [] (now (out .entry)) at (b ∷ []) ⌝ }
+    ensures { λ r. ⌜ now (out .exit) ≡ outputAfter r (now (out .entry)) at (b ∷ []) ⌝ }
+{
+    let answer = ask_room(out.len(), at, 1);
+    if let Written::To(_) = answer {
+        out[at] = b;
+    }
+    answer
+}
+
+// What a writer of n bytes that asks nothing else says of an output of len bytes.
+fn ask_room(len: usize, at: usize, n: usize) -> Written
+    ensures { λ r. ⌜ r ≡ writtenFor [] [] len at n ⌝ }
+{
+    if len < at {
+        Written::Refused(12)
+    } else if n <= len - at {
+        Written::To(at + n)
+    } else {
+        Written::Refused(14)
+    }
+}
+
+// What write_short_string says of an output of len bytes.
+fn ask_short_string(len: usize, at: usize, s: &[u8]) -> Written
+    ensures { λ r. ⌜ r ≡ writtenFor [] (shortStringAsked (now (s .entry))) len at (length (shortStringBytes (now (s .entry)))) ⌝ }
+{
+    if len < at {
+        return Written::Refused(12);
+    }
+    if 255 < s.len() {
+        return Written::Refused(13);
+    }
+    if !utf8::is_utf8(s) {
+        return Written::Refused(4);
+    }
+    ask_room(len, at, s.len() + 1)
+}
+
+// Stores the shortest VLQ of value and gives the place after it.
+fn put_vlq(out: &mut [u8], at: usize, value: u64) -> usize
+    requires { ⌜ at + length (vlqBytes value) ≤ length (now out) ⌝ }
+    ensures { λ r. ⌜ Wrote (now (out .entry)) at (vlqBytes value) r (now (out .exit)) ⌝ }
+{
+    let mut o = at;
+    let mut rest = value;
+    while 0x80 <= rest {
+        out[o] = (rest % 0x80 + 0x80) as u8;
+        o += 1;
+        rest = rest / 0x80;
+    }
+    out[o] = rest as u8;
+    o + 1
+}
+
+// Stores all bytes of s and gives the place after them.
+fn put_part(out: &mut [u8], at: usize, s: &[u8]) -> usize
+    requires { ⌜ at + length (now s) ≤ length (now out) ⌝ }
+    ensures { λ r. ⌜ Wrote (now (out .entry)) at (now (s .entry)) r (now (out .exit)) ⌝ }
+{
+    let mut o = at;
+    let mut i = 0;
+    while i < s.len() {
+        out[o] = s[i];
+        o += 1;
+        i += 1;
+    }
+    o
+}
+
+// Stores the length byte and all bytes of s, and gives the place after them.
+fn put_short_string(out: &mut [u8], at: usize, s: &[u8]) -> usize
+    requires { ⌜ length (now s) ≤ 255 ⌝ }
+    requires { ⌜ at + length (shortStringBytes (now s)) ≤ length (now out) ⌝ }
+    ensures { λ r. ⌜ Wrote (now (out .entry)) at (shortStringBytes (now (s .entry))) r (now (out .exit)) ⌝ }
+{
+    out[at] = s.len() as u8;
+    put_part(out, at + 1, s)
+}
