@@ -1,11 +1,11 @@
 -- An array that a loop fills from the front: the first i elements of a list, and then zeros. Assumes nothing.
-use mathlib.Core.Path.{_≡_, refl, ap, ap₂, sym, _∙_}
+use mathlib.Core.Path.{_≡_, refl, ap, sym, _∙_}
 use mathlib.Core.List.{List, [], _∷_, _++_}
-use Prim.Native.Nat.{ℕ, zero, suc, _+_, _-_, _<_, _≤_}
+use Prim.Native.Nat.{ℕ, suc, _+_, _-_, _<_, _≤_}
 use native.Mathlib.Numerals.{add-one}
 use native.Mathlib.Nat.{suc-add, zero-add}
 use native.Mathlib.Omega.{arith}
-use lib.ListN.{length, getD, set, take, replicate, length-append, length-replicate, replicate-append-replicate}
+use lib.ListN.{length, set, take, replicate, length-append, length-replicate, replicate-append-replicate}
 use lib.Seq.{take-append-add, take-length, take-suc, take-at, set-at, set-append-left, length-take-le, append-snoc}
 use Rattle.blake2b.specs.Blake2b.{_!_}
 

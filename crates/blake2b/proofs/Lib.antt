@@ -1,6 +1,7 @@
 -- The laws that the proofs of the functions cite.
 pub mod Blocks
 pub mod Chain
+pub mod Counter
 pub mod Elements
 pub mod Filled
 pub mod Order

@@ -1,66 +1,28 @@
 -- The running hash is BLAKE2b: started, stepped over whole blocks and finished with the rest, it gives the RFC's digest.
--- The idea: the counter's two words are one number, absorbed blocks are those of the RFC's loop, and a block is the same
--- whether it is counted from the start of the input or from where the rest begins. Assumes nothing.
+-- The idea: absorbed blocks are those of the RFC's loop, and a block is the same whether it is counted from the start of
+-- the input or from where the rest begins. Assumes nothing.
 use mathlib.Core.Path.{_≡_, refl, ap, ap₂, sym, _∙_}
-use mathlib.Core.Bool.{Bool, true, false}
+use mathlib.Core.Bool.{true, false}
 use mathlib.Core.List.{List, [], _++_}
 use mathlib.Core.Logic.{_⊎_, ⊎-elim}
 use Prim.Native.Nat.{ℕ, zero, suc, _+_, _-_, _*_, _/_, _%_, _^_, _<_, _≤_}
-use native.Mathlib.Nat.{add-comm, add-zero, add-suc, mod-eq-of-lt}
+use native.Mathlib.Nat.{add-zero, add-suc, mod-eq-of-lt}
 use native.Mathlib.Omega.{arith}
 use lib.ListN.{length, take, drop, replicate, length-drop}
 use lib.Seq.{drop-drop}
-use lib.Pow.{mod-pow-add}
 use Rattle.blake2b.specs.declared.Hash.{Hash}
-use Rattle.blake2b.specs.Blake2b.{w, bb, limit, _>>_, for, words, unwords, F, dd, d, h0, blake2b}
-use Rattle.blake2b.specs.Blake2bLaws.{words-take, d-padded, d-whole, dd-before}
+use Rattle.blake2b.specs.Blake2b.{w, bb, limit, for, words, unwords, F, dd, d, h0, blake2b}
+use Rattle.blake2b.specs.Blake2bLaws.{words-take, d-whole, dd-before}
 use Rattle.blake2b.specs.Running.{hash, counted, started, advanced, stepped, absorbed, ended, finished, run}
 
--- ---- the counter
+-- ---- from the start of the input
 
--- the low word, and the high word with the carry
-pub counted-words : (x : Hash) (n low high : ℕ) → low ≡ (x .t0 + n) % 2 ^ w → high ≡ (x .t1 + (x .t0 + n) / 2 ^ w) % 2 ^ w
-    → low + high * 2 ^ w ≡ counted x n
-unfolding counted limit
-counted-words x n low high el eh =
-    let t : ℕ = x .t0 + x .t1 * 2 ^ w + n in
-    let l : t % 2 ^ w ≡ low = omega arith in
-    let q : t / 2 ^ w ≡ x .t1 + (x .t0 + n) / 2 ^ w = omega arith in
-    let h : t / 2 ^ w % 2 ^ w ≡ high = ap (λ (k : ℕ). k % 2 ^ w) q ∙ sym eh in
-    sym (mod-pow-add t w w ∙ ap₂ (λ (a b : ℕ). a * 2 ^ w + b) h l ∙ add-comm (high * 2 ^ w) low)
-
--- two words and their number
-pub hash-words : (h : List ℕ) (low high : ℕ) → low < 2 ^ w → hash h (low + high * 2 ^ w) ≡ record { h = h; t0 = low; t1 = high }
-hash-words h low high l =
-    let a : (low + high * 2 ^ w) % 2 ^ w ≡ low = omega arith in
-    let b : (low + high * 2 ^ w) / 2 ^ w ≡ high = omega arith in
-    rw (a, b)
-
+-- a counter that stays below the limit
 counted-hash : (h : List ℕ) (t n : ℕ) → t + n < limit → counted (hash h t) n ≡ t + n
 unfolding counted
 counted-hash h t n l =
     let e : t % 2 ^ w + t / 2 ^ w * 2 ^ w ≡ t = omega arith in
     ap (λ (k : ℕ). (k + n) % limit) e ∙ mod-eq-of-lt l
-
--- a block advances the state and both words
-pub advanced-words : (x : Hash) (m h : List ℕ) (low high : ℕ) → low ≡ (x .t0 + bb) % 2 ^ w → high ≡ (x .t1 + (x .t0 + bb) / 2 ^ w) % 2 ^ w
-    → h ≡ F (x .h) m (low + high * 2 ^ w) false → record { h = h; t0 = low; t1 = high } ≡ advanced x m
-unfolding advanced
-advanced-words x m h low high el eh e =
-    let l : low < 2 ^ w = omega arith in
-    sym (hash-words h low high l) ∙ ap (λ (g : List ℕ). hash g (low + high * 2 ^ w)) e
-    ∙ ap (λ (t : ℕ). hash (F (x .h) m t false) t) (counted-words x bb low high el eh)
-
--- the last block gives the digest's state
-pub ended-words : (x : Hash) (s : List ℕ) (i : ℕ) (b m h : List ℕ) (low high : ℕ) → low ≡ (x .t0 + (length s - i * bb)) % 2 ^ w
-    → high ≡ (x .t1 + (x .t0 + (length s - i * bb)) / 2 ^ w) % 2 ^ w → b ≡ take bb (drop (i * bb) s ++ replicate bb 0) → m ≡ words 16 b
-    → h ≡ F (x .h) m (low + high * 2 ^ w) true → h ≡ ended x s i
-unfolding ended
-ended-words x s i b m h low high el eh eb em e =
-    e ∙ ap₂ (λ (u : List ℕ) (t : ℕ). F (x .h) u t true) (em ∙ ap (words 16) eb ∙ d-padded s i)
-    (counted-words x (length s - i * bb) low high el eh)
-
--- ---- from the start of the input
 
 -- the RFC's loop over the first i blocks
 abbrev loop : ℕ → List ℕ → ℕ → List ℕ

@@ -6,7 +6,7 @@ use native.Mathlib.Numerals.{add-one}
 use native.Mathlib.Omega.{arith}
 use lib.ListN.{length, drop}
 use Rattle.blake2b.specs.declared.Hash.{Hash}
-use Rattle.blake2b.specs.Blake2b.{bb, for, words, d}
+use Rattle.blake2b.specs.Blake2b.{bb, for, words}
 use Rattle.blake2b.specs.Blake2bLaws.{d-whole}
 use Rattle.blake2b.specs.Running.{advanced, absorbed}
 use borrow.Author.Needs.{needs}
@@ -44,4 +44,6 @@ returns c =
 
 pub absorb-spec : {M : Type 1} → statement M
 absorb-spec =
-    tie.close (tie.spec Inv-loop μ-loop loop-holds (λ c. omega arith) (λ c κs. omega arith) advance-requires (λ c. omega arith) (λ c. omega arith) loop-again returns)
+    tie.close
+    (tie.spec Inv-loop μ-loop loop-holds (λ c. omega arith) (λ c κs. omega arith) advance-requires (λ c. omega arith)
+    (λ c. omega arith) loop-again returns)

@@ -1,7 +1,5 @@
 -- The number of blocks before the last. Assumes nothing.
-use mathlib.Core.Path.{_≡_}
 use native.Mathlib.Omega.{arith}
-use Rattle.blake2b.specs.Blake2b.{dd}
 use Rattle.blake2b.specs.Blake2bLaws.{dd-before}
 use borrow.Author.Needs.{needs}
 use Rattle.blake2b.proofs.before_last.Statement.{statement}

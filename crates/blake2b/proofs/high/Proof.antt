@@ -14,14 +14,14 @@ stays a n s la ln e l = omega arith
 
 returns : tie.Need-returns
 returns c =
-    c .wrapping-add-u642 .ensures
-    ∙ ap (λ (k : ℕ). (c .before .before .before .args .t1 + k) % 2 ^ 64)
-    (sym (wraps _ _ _ (c .before .before .before .fits .t0 .fits) (c .before .before .before .fits .n .fits) (c .before .before .wrapping-add-u64 .ensures) (c .before .if1 .taken)))
+    let start = c .before .before .before in
+    let e = wraps _ _ _ (start .fits .t0 .fits) (start .fits .n .fits) (c .before .before .wrapping-add-u64 .ensures) (c .before .if1 .taken) in
+    c .wrapping-add-u642 .ensures ∙ ap (λ (k : ℕ). (start .args .t1 + k) % 2 ^ 64) (sym e)
 
 returns-2 : tie.Need-returns-2
 returns-2 c =
-    let e : (c .before .before .args .t0 + c .before .before .args .n) / 2 ^ 64 ≡ 0 =
-    stays _ _ _ (c .before .before .fits .t0 .fits) (c .before .before .fits .n .fits) (c .before .wrapping-add-u64 .ensures) (c .if1 .left) in
+    let start = c .before .before in
+    let e = stays _ _ _ (start .fits .t0 .fits) (start .fits .n .fits) (c .before .wrapping-add-u64 .ensures) (c .if1 .left) in
     omega arith
 
 pub high-spec : {M : Type 1} → statement M

@@ -16,7 +16,9 @@ absorb-requires : tie.Need-absorb-requires
 absorb-requires c κs = omega (arith, dd-before (length (c .before .before .args .rest .now)))
 
 last-requires : tie.Need-last-requires
-last-requires c κs = (omega (arith, dd-before (length (c .before .before .before .args .rest .now))), omega (arith, dd-before (length (c .before .before .before .args .rest .now))))
+last-requires c κs =
+    let n = length (c .before .before .before .args .rest .now) in
+    (omega (arith, dd-before n), omega (arith, dd-before n))
 
 law : (x y : Hash) (s h r : List ℕ) (n : ℕ) → n ≡ dd (length s) - 1 → y ≡ absorbed x s n → h ≡ ended y s n → r ≡ take 32 (unwords h)
     → r ≡ finished 32 x s
@@ -24,7 +26,9 @@ unfolding finished
 law x y s h r n en ey eh er = rw (er, eh, ey, en)
 
 returns : tie.Need-returns
-returns c = law _ _ _ _ _ _ (c .before .before .before .before-last .ensures) (c .before .before .absorb .ensures) (c .before .last .ensures) (c .unload .ensures)
+returns c =
+    law _ _ _ _ _ _ (c .before .before .before .before-last .ensures) (c .before .before .absorb .ensures)
+    (c .before .last .ensures) (c .unload .ensures)
 
 pub finish-spec : {M : Type 1} → statement M
 finish-spec =

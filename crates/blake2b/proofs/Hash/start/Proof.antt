@@ -1,5 +1,5 @@
 -- The state before the first block, with the digest length in the parameter word, and nothing counted. Assumes nothing.
-use mathlib.Core.Path.{_≡_, ap}
+use mathlib.Core.Path.{ap}
 use mathlib.Core.List.{List}
 use Prim.Native.Nat.{ℕ}
 use lib.ListN.{set}

@@ -6,11 +6,14 @@ use Rattle.blake2b.proofs.bytes.four.Statement.{statement}
 use Rattle.blake2b.proofs.bytes.four.Tie as tie
 
 returns : tie.Need-returns
-returns c = (
-  word-twice 2 (c .before .before .before .args .s .now) (c .before .before .before .args .i) _ _ (omega arith) (c .before .two .ensures .0) (c .two2 .ensures .0),
-  omega arith,
-)
+returns c =
+    let start = c .before .before .before in (
+      word-twice 2 (start .args .s .now) (start .args .i) _ _ (omega arith) (c .before .two .ensures .0) (c .two2 .ensures .0),
+      omega arith,
+    )
 
 pub four-spec : {M : Type 1} → statement M
 four-spec =
-    tie.close (tie.spec (λ c κs. search needs) (λ c. search needs) (λ c κs. search needs) (λ c. search needs) (λ c. search needs) returns)
+    tie.close
+    (tie.spec (λ c κs. search needs) (λ c. search needs) (λ c κs. search needs) (λ c. search needs)
+    (λ c. search needs) returns)

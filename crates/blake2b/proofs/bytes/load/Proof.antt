@@ -3,9 +3,9 @@ use mathlib.Core.Path.{_≡_, refl, ap, sym, _∙_}
 use mathlib.Core.List.{List}
 use Prim.Native.Nat.{ℕ, _≤_, _+_, _-_, _*_, _<_}
 use native.Mathlib.Omega.{arith}
-use lib.ListN.{length, set, take, drop}
+use lib.ListN.{set, take, drop}
 use lib.Seq.{take-length}
-use Rattle.blake2b.specs.Blake2b.{_!_, word, words}
+use Rattle.blake2b.specs.Blake2b.{word, words}
 use Rattle.blake2b.proofs.Blocks.{length-words, words-at}
 use Rattle.blake2b.proofs.Filled.{filled, filled-more, filled-all}
 use Rattle.blake2b.proofs.bytes.load.Statement.{statement}
@@ -39,4 +39,6 @@ returns c = all (c .before .before .before .args .s .now) _ (c .before .before .
 
 pub load-spec : {M : Type 1} → statement M
 load-spec =
-    tie.close (tie.spec Inv-loop μ-loop loop-holds (λ c. omega arith) (λ c. omega arith) (λ c κs. omega arith) (λ c. omega arith) (λ c. omega arith) (λ c. omega arith) (λ c. omega arith) loop-again returns)
+    tie.close
+    (tie.spec Inv-loop μ-loop loop-holds (λ c. omega arith) (λ c. omega arith) (λ c κs. omega arith)
+    (λ c. omega arith) (λ c. omega arith) (λ c. omega arith) (λ c. omega arith) loop-again returns)

@@ -25,10 +25,10 @@ more s b at i h l e =
     ∙ filled-more bb (drop at s) i (s ! (at + i)) (simp length-drop (omega arith)) l (sym (getD-drop at s i 0))
 
 loop-again : tie.Need-loop-again Inv-loop μ-loop
-loop-again c = (
-  omega arith,
-  more (c .before .before .before .args .s .now) _ (c .before .before .before .args .at) (c .before .before .loop .i) (omega arith) (omega arith) (c .before .before .loop .inv .1),
-)
+loop-again c =
+    let turn = c .before .before in
+    let start = turn .before in
+    (omega arith, more (start .args .s .now) _ (start .args .at) (turn .loop .i) (omega arith) (omega arith) (turn .loop .inv .1))
 
 all : (s b : List ℕ) (at i : ℕ) → i ≡ length s - at → i ≤ bb → b ≡ filled bb (drop at s) i → b ≡ take bb (drop at s ++ replicate bb 0)
 all s b at i h l e = e ∙ filled-padded bb (drop at s) i (h ∙ sym (length-drop at s)) l
@@ -38,4 +38,6 @@ returns c = all (c .before .before .args .s .now) _ (c .before .before .args .at
 
 pub padded-spec : {M : Type 1} → statement M
 padded-spec =
-    tie.close (tie.spec Inv-loop μ-loop (λ c. omega arith) loop-holds (λ c. omega arith) (λ c. omega arith) (λ c. omega arith) (λ c. omega arith) (λ c. omega arith) loop-again returns)
+    tie.close
+    (tie.spec Inv-loop μ-loop (λ c. omega arith) loop-holds (λ c. omega arith) (λ c. omega arith) (λ c. omega arith)
+    (λ c. omega arith) (λ c. omega arith) loop-again returns)

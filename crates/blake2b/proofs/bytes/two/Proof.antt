@@ -8,13 +8,17 @@ use Rattle.blake2b.proofs.bytes.two.Statement.{statement}
 use Rattle.blake2b.proofs.bytes.two.Tie as tie
 
 returns : tie.Need-returns
-returns c = (
-  word-twice 1 (c .before .before .before .before .before .args .s .now) (c .before .before .before .before .before .args .i) _ _ (omega arith)
-      (c .before .before .wide .ensures .0 ∙ sym (word-one (c .before .before .before .before .before .args .s .now) (c .before .before .before .before .before .args .i) (omega arith)))
-      (c .wide2 .ensures .0 ∙ sym (word-one (c .before .before .before .before .before .args .s .now) (c .before .before .before .before .before .args .i + 1) (omega arith))),
-  omega arith,
-)
+returns c =
+    let start = c .before .before .before .before .before in
+    let s = start .args .s .now in
+    let i = start .args .i in (
+      word-twice 1 s i _ _ (omega arith) (c .before .before .wide .ensures .0 ∙ sym (word-one s i (omega arith)))
+          (c .wide2 .ensures .0 ∙ sym (word-one s (i + 1) (omega arith))),
+      omega arith,
+    )
 
 pub two-spec : {M : Type 1} → statement M
 two-spec =
-    tie.close (tie.spec (λ c. search needs) (λ c κs. search needs) (λ c. search needs) (λ c. search needs) (λ c κs. search needs) (λ c. search needs) (λ c. search needs) returns)
+    tie.close
+    (tie.spec (λ c. search needs) (λ c κs. search needs) (λ c. search needs) (λ c. search needs)
+    (λ c κs. search needs) (λ c. search needs) (λ c. search needs) returns)

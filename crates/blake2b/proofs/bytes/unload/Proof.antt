@@ -3,7 +3,7 @@ use mathlib.Core.Path.{_≡_, refl, ap, sym, _∙_}
 use mathlib.Core.List.{List}
 use Prim.Native.Nat.{ℕ, _≤_, _+_, _-_, _*_, _/_, _%_, _<_}
 use native.Mathlib.Omega.{arith}
-use lib.ListN.{length, set, take}
+use lib.ListN.{length, set}
 use Rattle.blake2b.specs.Blake2b.{_!_, bytes, unwords}
 use Rattle.blake2b.proofs.Blocks.{length-unwords, unwords-at}
 use Rattle.blake2b.proofs.Filled.{filled, filled-more, filled-all}
@@ -35,4 +35,6 @@ returns c = c .before .loop .inv .1 ∙ filled-all 32 (unwords (c .before .befor
 
 pub unload-spec : {M : Type 1} → statement M
 unload-spec =
-    tie.close (tie.spec Inv-loop μ-loop loop-holds (λ c. omega arith) (λ c. omega arith) (λ c κs. omega arith) (λ c. omega arith) (λ c. omega arith) (λ c. omega arith) loop-again returns)
+    tie.close
+    (tie.spec Inv-loop μ-loop loop-holds (λ c. omega arith) (λ c. omega arith) (λ c κs. omega arith)
+    (λ c. omega arith) (λ c. omega arith) (λ c. omega arith) loop-again returns)

@@ -6,8 +6,12 @@ use Rattle.blake2b.proofs.bytes.word_at.Statement.{statement}
 use Rattle.blake2b.proofs.bytes.word_at.Tie as tie
 
 returns : tie.Need-returns
-returns c = word-twice 4 (c .before .before .before .args .s .now) (c .before .before .before .args .i) _ _ (omega arith) (c .before .four .ensures .0) (c .four2 .ensures .0)
+returns c =
+    let start = c .before .before .before in
+    word-twice 4 (start .args .s .now) (start .args .i) _ _ (omega arith) (c .before .four .ensures .0) (c .four2 .ensures .0)
 
 pub word-at-spec : {M : Type 1} → statement M
 word-at-spec =
-    tie.close (tie.spec (λ c κs. search needs) (λ c. search needs) (λ c κs. search needs) (λ c. search needs) (λ c. search needs) returns)
+    tie.close
+    (tie.spec (λ c κs. search needs) (λ c. search needs) (λ c κs. search needs) (λ c. search needs)
+    (λ c. search needs) returns)

@@ -19,8 +19,15 @@ lines v a b c d x p q s t u y es et eu ey = cc
 
 returns : tie.Need-returns
 returns c =
-    lines _ _ _ _ _ _ _ _ _ _ _ _ (c .before .before .before .add3 .ensures) (c .before .before .rotr .ensures) (c .before .wrapping-add-u64 .ensures) (c .rotr2 .ensures)
+    lines _ _ _ _ _ _ _ _ _ _ _ _ (c .before .before .before .add3 .ensures) (c .before .before .rotr .ensures)
+    (c .before .wrapping-add-u64 .ensures) (c .rotr2 .ensures)
 
 pub half-mix-spec : {M : Type 1} → statement M
 half-mix-spec =
-    tie.close (tie.spec (λ c. search needs) (λ c. search needs) (λ c. search needs) (λ c. search needs) (λ c κs. search needs) (λ c. search needs) (λ c. search needs) (λ c. search needs) (λ c. search needs) (λ c. search needs) (λ c. search needs) (λ c κs. search needs) (λ c. search needs) (λ c. search needs) (λ c. search needs) (λ c. search needs) (λ c. search needs) (λ c. search needs) (λ c κs. search needs) (λ c. search needs) (λ c. search needs) (λ c. search needs) (λ c. search needs) (λ c. search needs) (λ c. search needs) (λ c κs. search needs) (λ c. search needs) (λ c. search needs) returns)
+    tie.close
+    (tie.spec (λ c. search needs) (λ c. search needs) (λ c. search needs) (λ c. search needs) (λ c κs. search needs)
+    (λ c. search needs) (λ c. search needs) (λ c. search needs) (λ c. search needs) (λ c. search needs)
+    (λ c. search needs) (λ c κs. search needs) (λ c. search needs) (λ c. search needs) (λ c. search needs)
+    (λ c. search needs) (λ c. search needs) (λ c. search needs) (λ c κs. search needs) (λ c. search needs)
+    (λ c. search needs) (λ c. search needs) (λ c. search needs) (λ c. search needs) (λ c. search needs)
+    (λ c κs. search needs) (λ c. search needs) (λ c. search needs) returns)

@@ -17,4 +17,5 @@ returns c = law _ _ _ _ _ (c .before .before .before .before .rounds-0-to-3 .ens
 
 pub rounds-spec : {M : Type 1} → statement M
 rounds-spec =
-    tie.close (tie.spec (λ c κs. search needs) (λ c κs. search needs) (λ c κs. search needs) (λ c κs. search needs) returns)
+    tie.close
+    (tie.spec (λ c κs. search needs) (λ c κs. search needs) (λ c κs. search needs) (λ c κs. search needs) returns)

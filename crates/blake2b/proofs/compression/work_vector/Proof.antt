@@ -26,15 +26,21 @@ law h k v low high f l ek ev =
 returns : tie.Need-returns
 unfolding flagged
 returns c =
+    let start = c .before .before .before in
     rw (c .if1 .taken)
-    (law (c .before .before .before .args .h) _ _ (c .before .before .before .args .low) (c .before .before .before .args .high) true (omega arith) (c .before .before .iv .ensures) (c .before .halves .ensures))
+    (law (start .args .h) _ _ (start .args .low) (start .args .high) true (omega arith) (c .before .before .iv .ensures)
+    (c .before .halves .ensures))
 
 returns-2 : tie.Need-returns-2
 unfolding flagged
 returns-2 c =
+    let start = c .before .before .before in
     rw (c .if1 .left)
-    (law (c .before .before .before .args .h) _ _ (c .before .before .before .args .low) (c .before .before .before .args .high) false (omega arith) (c .before .before .iv .ensures) (c .before .halves .ensures))
+    (law (start .args .h) _ _ (start .args .low) (start .args .high) false (omega arith) (c .before .before .iv .ensures)
+    (c .before .halves .ensures))
 
 pub work-vector-spec : {M : Type 1} → statement M
 work-vector-spec =
-    tie.close (tie.spec (λ c κs. search needs) (λ c κs. search needs) (λ c. search needs) (λ c. search needs) (λ c. search needs) (λ c. search needs) (λ c. search needs) (λ c. search needs) returns returns-2)
+    tie.close
+    (tie.spec (λ c κs. search needs) (λ c κs. search needs) (λ c. search needs) (λ c. search needs)
+    (λ c. search needs) (λ c. search needs) (λ c. search needs) (λ c. search needs) returns returns-2)

@@ -1,6 +1,6 @@
 -- The entry read is SIGMA's, and so below 16. Assumes nothing.
 use mathlib.Core.Path.{ap}
-use Prim.Native.Nat.{ℕ, _<_}
+use Prim.Native.Nat.{ℕ}
 use native.Mathlib.Omega.{arith}
 use Rattle.blake2b.specs.Blake2b.{_!_}
 use Rattle.blake2b.specs.Parts.{selected}
@@ -24,4 +24,6 @@ returns c = ap (λ (k : ℕ). c .before .before .args .m .now ! k) (entry _ (c .
 
 pub select-spec : {M : Type 1} → statement M
 select-spec =
-    tie.close (tie.spec (λ c. search needs) (λ c. search needs) (λ c. search needs) cast-k mul-result element-copy-out-result returns)
+    tie.close
+    (tie.spec (λ c. search needs) (λ c. search needs) (λ c. search needs) cast-k mul-result element-copy-out-result
+    returns)

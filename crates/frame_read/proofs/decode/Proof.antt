@@ -1,0 +1,99 @@
+-- `frame_read::decode` meets its contract: each answer is the definition's, by the tests and the calls that led to it. Assumes nothing.
+use mathlib.Core.Path.{sym, ap, _∙_}
+use native.Mathlib.Omega.{arith}
+use lib.ListN.{take, drop}
+use denote.Ref.{now}
+use Rattle.wire.specs.Bytes.{sameBytes}
+use Rattle.frame_read.specs.Answers.{bodyAnswer}
+use Rattle.frame_read.proofs.AnswerLaws.{frame-outside, frame-short, frame-other, frame-long, frame-got, frame-refused}
+use borrow.Author.Needs.{needs}
+use borrow.Author.Tests.{not-true, not-false}
+use Rattle.frame_read.proofs.decode.Statement.{statement}
+use Rattle.frame_read.proofs.decode.Tie as tie
+
+returns : tie.Need-returns
+returns c = let a = c .before .before .args in sym (frame-outside (a .network) (now (a .s)) (a .at .0) (c .if1 .taken))
+
+sub-if2 : tie.Need-sub-if2
+sub-if2 c = search needs
+
+returns-2 : tie.Need-returns-2
+returns-2 c = let a = c .before .before .before .args in sym (frame-short (a .network) (now (a .s)) (a .at .0) (omega arith) (omega arith))
+
+magic-requires : tie.Need-magic-requires
+magic-requires c κs = search needs
+
+stands-at-requires : tie.Need-stands-at-requires
+stands-at-requires c κs = search needs
+
+returns-3 : tie.Need-returns-3
+returns-3 c =
+    let a = c .before .before .before .before .before .before .args in
+    let m = sym (c .before .stands-at .ensures ∙ ap (sameBytes (take 4 (drop (a .at .0) (now (a .s))))) (c .before .before .magic .ensures)) ∙ not-true _ (c .if3 .taken) in
+    sym (frame-other (a .network) (now (a .s)) (a .at .0) (omega arith) m)
+
+add-number : tie.Need-add-number
+add-number c = search needs
+
+number-requires : tie.Need-number-requires
+number-requires c κs = search needs
+
+returns-4 : tie.Need-returns-4
+returns-4 c =
+    let a = c .before .before .before .before .before .before .before .before .args in
+    let m = sym (c .before .before .before .stands-at .ensures ∙ ap (sameBytes (take 4 (drop (a .at .0) (now (a .s))))) (c .before .before .before .before .magic .ensures)) ∙ not-false _ (c .before .before .if3 .left) in
+    sym (frame-long (a .network) (now (a .s)) (a .at .0) _ (omega arith) m (c .before .number .ensures) (c .if4 .taken))
+
+add-code : tie.Need-add-code
+add-code c = search needs
+
+shared-slice-read-code : tie.Need-shared-slice-read-code
+shared-slice-read-code c = search needs
+
+add-read-body : tie.Need-add-read-body
+add-read-body c = search needs
+
+read-body-requires : tie.Need-read-body-requires
+read-body-requires c κs = search needs
+
+enum-known-body : tie.Need-enum-known-body
+enum-known-body c = search needs
+
+enum-known-m : tie.Need-enum-known-m
+enum-known-m c = search needs
+
+returns-5 : tie.Need-returns-5
+returns-5 c =
+    let a = c .before .before .before .before .before .before .before .before .before .before .before .before .before .args in
+    let m = sym (c .before .before .before .before .before .before .before .before .stands-at .ensures ∙ ap (sameBytes (take 4 (drop (a .at .0) (now (a .s))))) (c .before .before .before .before .before .before .before .before .before .magic .ensures)) ∙ not-false _ (c .before .before .before .before .before .before .before .if3 .left) in
+    let b = (sym (c .before .before .before .read-body .ensures) ∙ ap bodyAnswer (c .before .body .given .1)) in
+    sym (frame-got (a .network) (now (a .s)) (a .at .0) _ (omega arith) m (c .before .before .before .before .before .before .number .ensures) (omega arith) _ _ b)
+
+returns-6 : tie.Need-returns-6
+returns-6 c =
+    let a = c .before .before .before .before .before .before .before .before .before .before .before .before .before .args in
+    let m = sym (c .before .before .before .before .before .before .before .before .stands-at .ensures ∙ ap (sameBytes (take 4 (drop (a .at .0) (now (a .s))))) (c .before .before .before .before .before .before .before .before .before .magic .ensures)) ∙ not-false _ (c .before .before .before .before .before .before .before .if3 .left) in
+    let b = (sym (c .before .before .before .read-body .ensures) ∙ ap bodyAnswer (c .before .m .given .1)) in
+    sym (frame-refused (a .network) (now (a .s)) (a .at .0) _ (omega arith) m (c .before .before .before .before .before .before .number .ensures) (omega arith) _ b)
+
+pub decode-spec : {M : Type 1} → statement M
+decode-spec =
+    tie.close
+    (tie.spec
+    returns
+    sub-if2
+    returns-2
+    magic-requires
+    stands-at-requires
+    returns-3
+    add-number
+    number-requires
+    returns-4
+    add-code
+    shared-slice-read-code
+    add-read-body
+    read-body-requires
+    enum-known-body
+    enum-known-m
+    returns-5
+    returns-6)

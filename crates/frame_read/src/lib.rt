@@ -1,0 +1,125 @@
+// Frames, read from lent bytes (transport/frame.rs).
+ghost use mathlib.Core.Path.{_≡_};
+ghost use Prim.Native.Nat.{_+_, _≤_, _<_};
+ghost use lib.ListN.{length, take, drop};
+ghost use Rattle.wire.specs.Bytes.{bigEndian, sameBytes};
+ghost use Rattle.wire.specs.Reader.{mapAnswer};
+ghost use Rattle.vlq.specs.Vlq.{limit};
+ghost use Rattle.frame.specs.Frame.{body, frame};
+ghost use Rattle.frame_read.specs.Answers.{streamPartOf, frameOf, bodyAnswer, frameAnswer};
+use types::Network;
+use types::StreamPlace;
+
+// Magic (4), code (1) and body length (4).
+const MIN_HEADER_SIZE: usize = 9;
+
+const CHECK_SIZE: usize = 4;
+
+const MAX_BODY_SIZE: usize = 16_388_608;
+
+// Consecutive bytes of the stream: where they start, and how many they are.
+pub struct StreamPart {
+    pub start: StreamPlace,
+    pub len: usize,
+}
+
+// What is read of a frame: its code, and where its body stands.
+pub struct Frame {
+    pub code: u8,
+    pub body: StreamPart,
+}
+
+// A frame and the place where it ends, or the refusal's number.
+pub enum FrameRead {
+    Value(Frame, StreamPlace),
+    Refused(u8),
+}
+
+enum BodyRead {
+    Value(StreamPart, StreamPlace),
+    Refused(u8),
+}
+
+// The frame at a place; bytes after it are ignored.
+pub fn decode(s: &[u8], network: Network, at: StreamPlace) -> FrameRead
+    ensures { λ r. ⌜ frameAnswer r ≡ mapAnswer frameOf (frame network (now (s .entry)) (at .0)) ⌝ }
+{
+    let start = at.0;
+    if s.len() < start {
+        return FrameRead::Refused(12);
+    }
+    if s.len() - start < MIN_HEADER_SIZE {
+        return FrameRead::Refused(5);
+    }
+    let magic = network.magic();
+    if !stands_at(s, start, magic) {
+        return FrameRead::Refused(6);
+    }
+    let n = number(s, start + 5);
+    if MAX_BODY_SIZE < n {
+        return FrameRead::Refused(7);
+    }
+    let code = s[start + 4];
+    match read_body(s, start + MIN_HEADER_SIZE, n) {
+        BodyRead::Value(body, end) => FrameRead::Value(Frame { code, body }, end),
+        BodyRead::Refused(m) => FrameRead::Refused(m),
+    }
+}
+
+// A check and the body of n bytes; an empty body has no check.
+fn read_body(s: &[u8], at: usize, n: usize) -> BodyRead
+    requires { ⌜ (at ≤ length (now s)) × (n ≤ limit) ⌝ }
+    ensures { λ r. ⌜ bodyAnswer r ≡ mapAnswer streamPartOf (body n (now (s .entry)) at) ⌝ }
+{
+    if n == 0 {
+        let start = StreamPlace(at);
+        return BodyRead::Value(StreamPart { start, len: n }, start);
+    }
+    if s.len() - at < CHECK_SIZE + n {
+        return BodyRead::Refused(8);
+    }
+    let start = at + CHECK_SIZE;
+    let end = start + n;
+    let check = blake2b::check(&s[start..end]);
+    if !stands_at(s, at, check) {
+        return BodyRead::Refused(9);
+    }
+    let body = StreamPart {
+        start: StreamPlace(start),
+        len: n,
+    };
+    BodyRead::Value(body, StreamPlace(end))
+}
+
+// Do these four bytes stand at a place?
+fn stands_at(s: &[u8], at: usize, four: [u8; 4]) -> bool
+    requires { ⌜ at + 4 ≤ length (now s) ⌝ }
+    ensures { λ r. ⌜ r ≡ sameBytes (take 4 (drop at (now (s .entry)))) four ⌝ }
+{
+    let mut i: usize = 0;
+    while i < 4 {
+        if s[at + i] != four[i] {
+            return false;
+        }
+        i += 1;
+    }
+    true
+}
+
+// The number of the four bytes at a place, the highest first.
+fn number(s: &[u8], at: usize) -> usize
+    requires { ⌜ at + 4 ≤ length (now s) ⌝ }
+    ensures { λ r. ⌜ r ≡ bigEndian (take 4 (drop at (now (s .entry)))) ⌝ }
+{
+    let a = wide(s[at]);
+    let b = wide(s[at + 1]);
+    let c = wide(s[at + 2]);
+    let d = wide(s[at + 3]);
+    ((a * 256 + b) * 256 + c) * 256 + d
+}
+
+fn wide(x: u8) -> usize
+    ensures { λ r. ⌜ (r ≡ x) × (r < 256) ⌝ }
+{
+    x as usize
+}

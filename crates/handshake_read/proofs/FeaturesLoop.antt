@@ -1,0 +1,55 @@
+-- The loops over features take the turns of `listOf` one by one and keep what they say of the features so far.
+use Prim.Native.Nat.{ℕ, _+_, _-_, _≤_, _<_}
+use mathlib.Core.Bool.{Bool, true, false, cond}
+use mathlib.Core.List.{List, [], _∷_, _++_}
+use mathlib.Core.Option.{none, some}
+use mathlib.Core.Path.{_≡_, refl, ap, sym, _∙_}
+use lib.Dec.{eqb}
+use Rattle.wire.specs.Reader.{got, refused, mapAnswer, listOf}
+use Rattle.wire.specs.ReaderLaws.{FoldSoFar, fold-start, fold-turn, fold-refused, fold-end}
+use Rattle.handshake.specs.Entry.{EntryFeature, feature}
+use Rattle.handshake.specs.Verdict.{firstFeature}
+use Rattle.handshake_read.specs.Answers.{featureOf, featureIfAny, firstIn, orThis}
+use Rattle.handshake_read.specs.AnswerLaws.{map-value, map-refusal}
+use Rattle.handshake_read.specs.PartsLaws.{turn}
+
+-- i of the n features are read; b is what is seen of them
+pub record FeaturesSoFar {B : Type 0} (see : List EntryFeature → B) (s : List ℕ) (n at₀ : ℕ) (b : B) (at i : ℕ) : Type 0 where
+  pub list : List EntryFeature
+  pub taken : FoldSoFar turn s n [] at₀ list at i
+  pub seen : see list ≡ b
+
+pub features-start : {B : Type 0} (see : List EntryFeature → B) (s : List ℕ) (n at : ℕ) → FeaturesSoFar see s n at (see []) at 0
+features-start see s n at = record { list = []; taken = fold-start turn s n [] at; seen = refl }
+
+module _ {B : Type 0} {see : List EntryFeature → B} {s : List ℕ} {n at₀ : ℕ} {b : B} {at i : ℕ} (inv : FeaturesSoFar see s n at₀ b at i) where
+  pub features-again : {f : EntryFeature} {next : ℕ} {b′ : B} → i < n → feature s at ≡ got f next → see (inv .list ++ (f ∷ [])) ≡ b′
+      → FeaturesSoFar see s n at₀ b′ next (i + 1)
+  features-again {f} {next} h q e =
+      let t : turn (inv .list) s at ≡ got (inv .list ++ (f ∷ [])) next = rw q in
+      record { list = inv .list ++ (f ∷ []); taken = fold-turn (inv .taken) h t; seen = e }
+
+  pub features-refused : {m : ℕ} → i < n → feature s at ≡ refused m → refused m ≡ mapAnswer see (listOf n (λ before. feature) s at₀)
+  unfolding listOf
+  features-refused {m} h q =
+      let t : turn (inv .list) s at ≡ refused m = rw q in
+      rw (← fold-refused (inv .taken) h t) (sym (map-refusal see m))
+
+  pub features-end : n ≤ i → got b at ≡ mapAnswer see (listOf n (λ before. feature) s at₀)
+  unfolding listOf
+  features-end h = rw (← fold-end (inv .taken) h) (sym (map-value see (inv .list) at ∙ ap (λ (b : B). got b at) (inv .seen)))
+
+-- the first with an id, after one more feature
+pub first-more : (id : ℕ) (l : List EntryFeature) (f : EntryFeature) → firstIn id (l ++ (f ∷ [])) ≡ orThis id (featureOf f) (firstIn id l)
+unfolding firstFeature
+first-more id [] f = go (eqb (f .id) id)
+  where
+    go : (b : Bool) → featureIfAny (cond b (some f) none) ≡ cond b (some (featureOf f)) none
+    go true = refl
+    go false = refl
+first-more id (g ∷ l) f = go (eqb (g .id) id) (first-more id l f)
+  where
+    go : (b : Bool) → featureIfAny (firstFeature id (l ++ (f ∷ []))) ≡ orThis id (featureOf f) (featureIfAny (firstFeature id l))
+        → featureIfAny (cond b (some g) (firstFeature id (l ++ (f ∷ [])))) ≡ orThis id (featureOf f) (featureIfAny (cond b (some g) (firstFeature id l)))
+    go true h = refl
+    go false h = h

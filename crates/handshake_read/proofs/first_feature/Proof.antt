@@ -1,0 +1,58 @@
+-- `handshake_read::first_feature` meets its contract. The loop's invariant and what follows from it stand in `FeaturesLoop`.
+use Rattle.handshake.specs.Verdict.{firstFeature}
+use Prim.Native.Nat.{_-_}
+use mathlib.Core.Path.{sym, ap, _∙_}
+use native.Mathlib.Omega.{arith}
+use borrow.Author.Needs.{needs}
+use Rattle.wire.specs.ReaderLaws.{map-got, map-refused}
+use Rattle.handshake_read.specs.Answers.{featureOf, featureAnswer, firstIn, found}
+use Rattle.handshake_read.proofs.FeaturesLoop.{FeaturesSoFar, features-start, features-again, features-refused, features-end, first-more}
+use Rattle.handshake_read.proofs.first_feature.Statement.{statement}
+use Rattle.handshake_read.proofs.first_feature.Tie as tie
+
+abbrev Inv-loop : tie.InvT-loop
+Inv-loop s n id d₀ first₀ i₀ d first i = FeaturesSoFar (firstIn id) s n (d₀ .at) (found first) (d .at) i
+
+abbrev μ-loop : tie.MeasureT-loop
+μ-loop s n id d₀ first₀ i₀ d first i = n - i
+
+loop-holds : tie.Need-loop-holds Inv-loop μ-loop
+unfolding firstFeature
+loop-holds c = features-start (firstIn (c .before .args .id)) _ _ _
+
+add-i : tie.Need-add-i Inv-loop μ-loop
+add-i c = omega arith
+
+loop-less : tie.Need-loop-less Inv-loop μ-loop
+loop-less c = omega arith
+
+loop-again : tie.Need-loop-again Inv-loop μ-loop
+loop-again c =
+    let inv = c .before .before .before .before .before .before .loop .inv in
+    let e = map-got featureOf (sym (c .before .before .before .before .read-feature .ensures) ∙ ap featureAnswer (c .before .before .f .given .1)) in
+    features-again inv (omega arith) (e .1) (first-more (c .before .before .before .before .before .before .before .before .args .id) (inv .list) (e .0) ∙ rw (inv .seen, e .2) (sym (c .first-of .ensures)))
+
+returns : tie.Need-returns Inv-loop μ-loop
+returns c =
+    let e = map-refused featureOf (sym (c .before .before .before .read-feature .ensures) ∙ ap featureAnswer (c .before .m .given .1)) in
+    features-refused (c .before .before .before .before .before .loop .inv) (omega arith) e
+
+returns-2 : tie.Need-returns-2 Inv-loop μ-loop
+returns-2 c = features-end (c .before .loop .inv) (omega arith)
+
+pub first-feature-spec : {M : Type 1} → statement M
+first-feature-spec =
+    tie.close
+    (tie.spec
+    Inv-loop
+    μ-loop
+    loop-holds
+    (λ c κs. tt)
+    (λ c. search needs)
+    (λ c κs. tt)
+    add-i
+    loop-less
+    loop-again
+    (λ c. search needs)
+    returns
+    returns-2)

@@ -1,0 +1,173 @@
+-- What each answer of the code means, and what the code gives of a reading: its places and lengths, its numbers, and how many features there are.
+use Prim.Native.Nat.{ℕ, _+_, _≤_}
+use mathlib.Core.Bool.{cond}
+use mathlib.Core.List.{List}
+use mathlib.Core.Option.{Option, none, some}
+use lib.Dec.{eqb}
+use lib.ListN.{length, take, drop}
+use Rattle.wire.specs.Reader.{Answer, got, refused, Segment, partOf}
+use Rattle.wire.specs.declared.Part.{Part}
+use Rattle.types.specs.declared.Version.{Version}
+use Rattle.types.specs.declared.Address.{Address}
+use Rattle.types.specs.declared.Network.{Network}
+use Rattle.handshake.specs.Entry.{EntryFeature, Entry, EntryHandshake}
+use Rattle.handshake.specs.Verdict.{firstFeature, validatePeer, restApiUrl}
+use Rattle.handshake_read.specs.Parts.{EntryHead, EntryFeatures}
+use Rattle.handshake_read.specs.declared.Head.{Head}
+use Rattle.handshake_read.specs.declared.Features.{Features}
+use Rattle.handshake_read.specs.declared.Feature.{Feature}
+use Rattle.handshake_read.specs.declared.PeerSpec.{PeerSpec}
+use Rattle.handshake_read.specs.declared.Handshake.{Handshake}
+use Rattle.handshake_read.specs.declared.VersionRead.{VersionRead}
+use Rattle.handshake_read.specs.declared.VersionRead.the-variants as VersionReads
+use Rattle.handshake_read.specs.declared.AddressRead.{AddressRead}
+use Rattle.handshake_read.specs.declared.AddressRead.the-variants as AddressReads
+use Rattle.handshake_read.specs.declared.HeadRead.{HeadRead}
+use Rattle.handshake_read.specs.declared.HeadRead.the-variants as HeadReads
+use Rattle.handshake_read.specs.declared.FeatureRead.{FeatureRead}
+use Rattle.handshake_read.specs.declared.FeatureRead.the-variants as FeatureReads
+use Rattle.handshake_read.specs.declared.EndRead.{EndRead}
+use Rattle.handshake_read.specs.declared.EndRead.the-variants as EndReads
+use Rattle.handshake_read.specs.declared.FeaturesRead.{FeaturesRead}
+use Rattle.handshake_read.specs.declared.FeaturesRead.the-variants as FeaturesReads
+use Rattle.handshake_read.specs.declared.Found.{Found}
+use Rattle.handshake_read.specs.declared.Found.the-variants as Founds
+use Rattle.handshake_read.specs.declared.FirstRead.{FirstRead}
+use Rattle.handshake_read.specs.declared.FirstRead.the-variants as FirstReads
+use Rattle.handshake_read.specs.declared.EntryRead.{EntryRead}
+use Rattle.handshake_read.specs.declared.EntryRead.the-variants as EntryReads
+use Rattle.handshake_read.specs.declared.HandshakeRead.{HandshakeRead}
+use Rattle.handshake_read.specs.declared.HandshakeRead.the-variants as HandshakeReads
+use Rattle.handshake_read.specs.declared.SizeRead.{SizeRead}
+use Rattle.handshake_read.specs.declared.SizeRead.the-variants as SizeReads
+use Rattle.handshake_read.specs.declared.VerdictRead.{VerdictRead}
+use Rattle.handshake_read.specs.declared.VerdictRead.the-variants as VerdictReads
+use Rattle.handshake_read.specs.declared.Url.{Url}
+use Rattle.handshake_read.specs.declared.Url.the-variants as Urls
+use Rattle.handshake_read.specs.declared.UrlRead.{UrlRead}
+use Rattle.handshake_read.specs.declared.UrlRead.the-variants as UrlReads
+
+-- ---- what is given of a reading
+
+abbrev pub headOf : EntryHead → Head
+headOf h = record { agent = partOf (h .agent); version = h .version; name = partOf (h .name); address = h .address }
+
+abbrev pub featuresOf : EntryFeatures → Features
+featuresOf l = record { count = length (l .features); start = l .first }
+
+abbrev pub featureOf : EntryFeature → Feature
+featureOf f = record { id = f .id; body = partOf (f .body) }
+
+abbrev pub featureIfAny : Option EntryFeature → Option Feature
+featureIfAny none = none
+featureIfAny (some f) = some (featureOf f)
+
+abbrev pub partIfAny : Option Segment → Option Part
+partIfAny none = none
+partIfAny (some g) = some (partOf g)
+
+-- of features, the first with an id
+abbrev pub firstIn : ℕ → List EntryFeature → Option Feature
+firstIn id l = featureIfAny (firstFeature id l)
+
+abbrev pub firstOf : ℕ → EntryFeatures → Option Feature
+firstOf id l = firstIn id (l .features)
+
+-- of features, nothing but where they end
+abbrev pub ended : List EntryFeature → Unit {0}
+ended l = tt
+
+abbrev pub peerSpecOf : Entry → PeerSpec
+peerSpecOf e =
+    record {
+      agent = partOf (e .agent);
+      version = e .version;
+      name = partOf (e .name);
+      address = e .address;
+      features = record { count = length (e .features); start = e .first };
+    }
+
+abbrev pub handshakeOf : EntryHandshake → Handshake
+handshakeOf h = record { timestamp = h .timestamp; peer = peerSpecOf (h .entry) }
+
+abbrev pub handshakeVerdict : Network → EntryHandshake → ℕ
+handshakeVerdict network h = validatePeer network (h .entry)
+
+abbrev pub entryUrl : Entry → Option Part
+entryUrl e = partIfAny (restApiUrl e)
+
+-- ---- what an answer means
+
+abbrev pub versionAnswer : VersionRead → Answer Version
+versionAnswer (VersionReads.Value v c) = got v (c .at)
+versionAnswer (VersionReads.Refused m) = refused m
+
+abbrev pub addressAnswer : AddressRead → Answer Address
+addressAnswer (AddressReads.Value a c) = got a (c .at)
+addressAnswer (AddressReads.Refused m) = refused m
+
+abbrev pub headAnswer : HeadRead → Answer Head
+headAnswer (HeadReads.Value h c) = got h (c .at)
+headAnswer (HeadReads.Refused m) = refused m
+
+abbrev pub featureAnswer : FeatureRead → Answer Feature
+featureAnswer (FeatureReads.Value f c) = got f (c .at)
+featureAnswer (FeatureReads.Refused m) = refused m
+
+abbrev pub endAnswer : EndRead → Answer (Unit {0})
+endAnswer (EndReads.Value c) = got tt (c .at)
+endAnswer (EndReads.Refused m) = refused m
+
+abbrev pub featuresAnswer : FeaturesRead → Answer Features
+featuresAnswer (FeaturesReads.Value l c) = got l (c .at)
+featuresAnswer (FeaturesReads.Refused m) = refused m
+
+abbrev pub found : Found → Option Feature
+found (Founds.At f) = some f
+found Founds.None = none
+
+-- what was found before, or else this feature if it has the id
+abbrev pub orThis : ℕ → Feature → Option Feature → Option Feature
+orThis id f (some g) = some g
+orThis id f none = cond (eqb (f .id) id) (some f) none
+
+abbrev pub firstAnswer : FirstRead → Answer (Option Feature)
+firstAnswer (FirstReads.Value f c) = got (found f) (c .at)
+firstAnswer (FirstReads.Refused m) = refused m
+
+abbrev pub entryAnswer : EntryRead → Answer PeerSpec
+entryAnswer (EntryReads.Value e c) = got e (c .at)
+entryAnswer (EntryReads.Refused m) = refused m
+
+abbrev pub handshakeAnswer : HandshakeRead → Answer Handshake
+handshakeAnswer (HandshakeReads.Value h c) = got h (c .at)
+handshakeAnswer (HandshakeReads.Refused m) = refused m
+
+-- the size is the place where the handshake ends
+abbrev pub sizeAnswer : SizeRead → Answer ℕ
+sizeAnswer (SizeReads.Size n) = got n n
+sizeAnswer (SizeReads.Refused m) = refused m
+
+abbrev pub verdictAnswer : VerdictRead → Answer ℕ
+verdictAnswer (VerdictReads.Value v c) = got v (c .at)
+verdictAnswer (VerdictReads.Refused m) = refused m
+
+abbrev pub url : Url → Option Part
+url (Urls.At p) = some p
+url Urls.None = none
+
+abbrev pub urlAnswer : UrlRead → Answer (Option Part)
+urlAnswer (UrlReads.Value u c) = got (url u) (c .at)
+urlAnswer (UrlReads.Refused m) = refused m
+
+-- ---- a feature by its places
+
+-- with the bytes of its body in s
+abbrev pub foundIn : List ℕ → Found → Option EntryFeature
+foundIn s (Founds.At f) = some (record { id = f .id; body = record { start = f .body .start; bytes = take (f .body .len) (drop (f .body .start) s) } })
+foundIn s Founds.None = none
+
+-- its body is among the first n bytes
+abbrev pub Inside : ℕ → Found → Type 0
+Inside n (Founds.At f) = f .body .start + f .body .len ≤ n
+Inside n Founds.None = Unit {0}

@@ -1,0 +1,4 @@
+pub mod Parts
+pub mod PartsLaws
+pub mod Answers
+pub mod AnswerLaws

@@ -1,0 +1,61 @@
+-- An entry in the two parts that the code reads one after the other, a feature by index, and the verdict on a version and a feature.
+-- That the two parts are an entry, and the verdict that of `validatePeer`, is shown in `PartsLaws`.
+use Prim.Native.Nat.{ℕ, zero, suc, _+_}
+use mathlib.Core.Bool.{cond}
+use mathlib.Core.List.{List, [], _∷_}
+use mathlib.Core.Option.{Option}
+use lib.ListN.{length}
+use Rattle.wire.specs.Reader.{Answer, got, refused, Reader, bind, pure, andThen, place, byte, Segment, listOf}
+use Rattle.vlq.specs.ShortString.{shortString}
+use Rattle.types.specs.declared.Version.{Version}
+use Rattle.types.specs.declared.Address.{Address}
+use Rattle.types.specs.declared.Network.{Network}
+use Rattle.types.specs.Order.{below, eip37Min}
+use Rattle.handshake.specs.Entry.{version, addressIf, EntryFeature, feature, entry}
+use Rattle.handshake.specs.Verdict.{otherMagic}
+
+-- an address flag byte, an address if the flag isn't 0
+unfoldable pub declaredAddress : Reader Address
+declaredAddress = andThen byte addressIf
+
+pub record EntryHead : Type 0 where
+  pub agent : Segment
+  pub version : Version
+  pub name : Segment
+  pub address : Address
+
+-- agent, three version bytes, name, the declared address
+unfoldable pub head : Reader EntryHead
+head =
+    andThen shortString (λ agent.
+    andThen version (λ version.
+    andThen shortString (λ name.
+    andThen declaredAddress (λ address.
+    pure (record { agent = agent; version = version; name = name; address = address })))))
+
+pub record EntryFeatures : Type 0 where
+  pub first : ℕ
+  pub features : List EntryFeature
+
+-- a feature count byte, the features
+unfoldable pub features : Reader EntryFeatures
+features =
+    andThen byte (λ count.
+    andThen place (λ first.
+    andThen (listOf count (λ before. feature)) (λ features.
+    pure (record { first = first; features = features }))))
+
+-- the feature with this index, and the place where its body ends
+-- Is the index inside? 12
+unfoldable pub nth : ℕ → List EntryFeature → Answer EntryFeature
+nth index [] = refused 12
+nth zero (f ∷ fs) = got f (f .body .start + length (f .body .bytes))
+nth (suc index) (f ∷ fs) = nth index fs
+
+-- a feature of the entry at a place, once the entry has been read without refusal
+unfoldable pub featureAt : ℕ → Reader EntryFeature
+featureAt index s at = bind (entry s at) (λ e next. nth index (e .features))
+
+-- `validatePeer` from the version and the first feature 3
+unfoldable pub verdictOf : Network → Version → Option EntryFeature → ℕ
+verdictOf network v first = cond (below v eip37Min) 1 (cond (otherMagic network first) 2 0)

@@ -1,0 +1,519 @@
+// Entries and handshakes, read from lent bytes (transport/handshake.rs).
+ghost use mathlib.Core.Path.{_≡_};
+ghost use Prim.Native.Nat.{_+_, _-_, _^_, _≤_, _<_};
+ghost use lib.ListN.{length, take, drop};
+ghost use Rattle.wire.specs.Bytes.{bigEndian, sameBytes};
+ghost use Rattle.wire.specs.Reader.{andThen, place, mapAnswer, listOf};
+ghost use Rattle.types.specs.Magic.{magicOf};
+ghost use Rattle.handshake.specs.Entry.{version, addressOf, address, feature, entry, handshake};
+ghost use Rattle.handshake.specs.Verdict.{validatePeer, urlOf};
+ghost use Rattle.handshake_read.specs.Parts.{declaredAddress, head, features, featureAt, verdictOf};
+ghost use Rattle.handshake_read.specs.Answers.{headOf, featuresOf, featureOf, firstIn, firstOf, ended, peerSpecOf, handshakeOf, handshakeVerdict, entryUrl, partIfAny, orThis, foundIn, Inside};
+ghost use Rattle.handshake_read.specs.Answers.{versionAnswer, addressAnswer, headAnswer, featureAnswer, endAnswer, featuresAnswer, found, firstAnswer, entryAnswer, handshakeAnswer, sizeAnswer, verdictAnswer, url, urlAnswer};
+use types::Address;
+use types::Network;
+use types::Version;
+use vlq::ByteRead;
+use vlq::Cursor;
+use vlq::PartRead;
+use vlq::VlqRead;
+use wire::Part;
+
+// The features of an entry: how many there are, and the place of the first.
+pub struct Features {
+    pub count: u8,
+    pub start: usize,
+}
+
+// What is read of an entry.
+pub struct PeerSpec {
+    pub agent: Part,
+    pub version: Version,
+    pub name: Part,
+    pub address: Address,
+    pub features: Features,
+}
+
+// A feature: its id, and where its body stands.
+pub struct Feature {
+    pub id: u8,
+    pub body: Part,
+}
+
+// What is read of a handshake.
+pub struct Handshake {
+    pub timestamp: u64,
+    pub peer: PeerSpec,
+}
+
+pub enum FeatureRead {
+    Value(Feature, Cursor),
+    Refused(u8),
+}
+
+pub enum EntryRead {
+    Value(PeerSpec, Cursor),
+    Refused(u8),
+}
+
+pub enum HandshakeRead {
+    Value(Handshake, Cursor),
+    Refused(u8),
+}
+
+pub enum SizeRead {
+    Size(usize),
+    Refused(u8),
+}
+
+pub enum VerdictRead {
+    Value(u8, Cursor),
+    Refused(u8),
+}
+
+pub enum Url {
+    At(Part),
+    None,
+}
+
+pub enum UrlRead {
+    Value(Url, Cursor),
+    Refused(u8),
+}
+
+// An entry without its features.
+struct Head {
+    agent: Part,
+    version: Version,
+    name: Part,
+    address: Address,
+}
+
+// The first feature with some id.
+enum Found {
+    At(Feature),
+    None,
+}
+
+enum VersionRead {
+    Value(Version, Cursor),
+    Refused(u8),
+}
+
+enum AddressRead {
+    Value(Address, Cursor),
+    Refused(u8),
+}
+
+enum HeadRead {
+    Value(Head, Cursor),
+    Refused(u8),
+}
+
+enum EndRead {
+    Value(Cursor),
+    Refused(u8),
+}
+
+enum FeaturesRead {
+    Value(Features, Cursor),
+    Refused(u8),
+}
+
+enum FirstRead {
+    Value(Found, Cursor),
+    Refused(u8),
+}
+
+// A handshake from the first byte on: a timestamp and an entry.
+pub fn parse(s: &[u8]) -> HandshakeRead
+    ensures { λ r. ⌜ handshakeAnswer r ≡ mapAnswer handshakeOf (handshake (now (s .entry)) 0) ⌝ }
+{
+    let c = Cursor { at: 0 };
+    match c.read_vlq(s) {
+        VlqRead::Value(timestamp, d) => match parse_peer_entry(s, d) {
+            EntryRead::Value(peer, e) => HandshakeRead::Value(Handshake { timestamp, peer }, e),
+            EntryRead::Refused(m) => HandshakeRead::Refused(m),
+        },
+        VlqRead::Refused(m) => HandshakeRead::Refused(m),
+    }
+}
+
+// How many bytes a handshake takes.
+pub fn measure_size(s: &[u8]) -> SizeRead
+    ensures { λ r. ⌜ sizeAnswer r ≡ andThen handshake (λ h. place) (now (s .entry)) 0 ⌝ }
+{
+    match parse(s) {
+        HandshakeRead::Value(h, c) => SizeRead::Size(c.at),
+        HandshakeRead::Refused(m) => SizeRead::Refused(m),
+    }
+}
+
+// An entry at a place.
+pub fn parse_peer_entry(s: &[u8], c: Cursor) -> EntryRead
+    ensures { λ r. ⌜ entryAnswer r ≡ mapAnswer peerSpecOf (entry (now (s .entry)) (c .at)) ⌝ }
+{
+    match read_head(s, c) {
+        HeadRead::Value(h, d) => match read_features(s, d) {
+            FeaturesRead::Value(features, e) => {
+                let agent = h.agent;
+                let version = h.version;
+                let name = h.name;
+                let address = h.address;
+                EntryRead::Value(
+                    PeerSpec {
+                        agent,
+                        version,
+                        name,
+                        address,
+                        features,
+                    },
+                    e,
+                )
+            }
+            FeaturesRead::Refused(m) => EntryRead::Refused(m),
+        },
+        HeadRead::Refused(m) => EntryRead::Refused(m),
+    }
+}
+
+// A feature at a place: an id byte, a length and the body.
+pub fn read_feature(s: &[u8], c: Cursor) -> FeatureRead
+    ensures { λ r. ⌜ featureAnswer r ≡ mapAnswer featureOf (feature (now (s .entry)) (c .at)) ⌝ }
+{
+    match c.read_byte(s) {
+        ByteRead::Value(id, d) => match d.read_vlq_length(s) {
+            VlqRead::Value(n, e) => match e.read_part(s, n as usize) {
+                PartRead::Value(body, f) => FeatureRead::Value(Feature { id, body }, f),
+                PartRead::Refused(m) => FeatureRead::Refused(m),
+            },
+            VlqRead::Refused(m) => FeatureRead::Refused(m),
+        },
+        ByteRead::Refused(m) => FeatureRead::Refused(m),
+    }
+}
+
+// A feature of the entry at a place, by index.
+pub fn feature_by_index(s: &[u8], c: Cursor, index: usize) -> FeatureRead
+    ensures { λ r. ⌜ featureAnswer r ≡ mapAnswer featureOf (featureAt index (now (s .entry)) (c .at)) ⌝ }
+{
+    match parse_peer_entry(s, c) {
+        EntryRead::Value(peer, end) => {
+            let features = peer.features;
+            if features.count as usize <= index {
+                return FeatureRead::Refused(12);
+            }
+            match skip_features(s, Cursor { at: features.start }, index) {
+                EndRead::Value(d) => read_feature(s, d),
+                EndRead::Refused(m) => FeatureRead::Refused(m),
+            }
+        }
+        EntryRead::Refused(m) => FeatureRead::Refused(m),
+    }
+}
+
+// The verdict on a handshake: 1 if its version is below 4.0.100; else 2 if its first feature 3 has another magic; else 0.
+pub fn validate_peer(s: &[u8], network: Network) -> VerdictRead
+    ensures { λ r. ⌜ verdictAnswer r ≡ mapAnswer (handshakeVerdict network) (handshake (now (s .entry)) 0) ⌝ }
+{
+    let c = Cursor { at: 0 };
+    match c.read_vlq(s) {
+        VlqRead::Value(timestamp, d) => validate_entry(s, d, network),
+        VlqRead::Refused(m) => VerdictRead::Refused(m),
+    }
+}
+
+// The same verdict on an entry at a place.
+pub fn validate_entry(s: &[u8], c: Cursor, network: Network) -> VerdictRead
+    ensures { λ r. ⌜ verdictAnswer r ≡ mapAnswer (validatePeer network) (entry (now (s .entry)) (c .at)) ⌝ }
+{
+    match read_head(s, c) {
+        HeadRead::Value(h, d) => match read_first(s, d, FEATURE_SESSION) {
+            FirstRead::Value(first, e) => VerdictRead::Value(
+                verdict(s, h.version, first, network),
+                e,
+            ),
+            FirstRead::Refused(m) => VerdictRead::Refused(m),
+        },
+        HeadRead::Refused(m) => VerdictRead::Refused(m),
+    }
+}
+
+// The REST API URL of the entry at a place: where it stands within the body of the first feature 4.
+pub fn rest_api_url(s: &[u8], c: Cursor) -> UrlRead
+    ensures { λ r. ⌜ urlAnswer r ≡ mapAnswer entryUrl (entry (now (s .entry)) (c .at)) ⌝ }
+{
+    match read_head(s, c) {
+        HeadRead::Value(h, d) => match read_first(s, d, FEATURE_REST_API) {
+            FirstRead::Value(first, e) => UrlRead::Value(url_of(s, first), e),
+            FirstRead::Refused(m) => UrlRead::Refused(m),
+        },
+        HeadRead::Refused(m) => UrlRead::Refused(m),
+    }
+}
+
+const FEATURE_SESSION: u8 = 3;
+
+const FEATURE_REST_API: u8 = 4;
+
+// Three version bytes.
+fn read_version(s: &[u8], c: Cursor) -> VersionRead
+    ensures { λ r. ⌜ versionAnswer r ≡ version (now (s .entry)) (c .at) ⌝ }
+{
+    let at = c.at;
+    if s.len() < at {
+        return VersionRead::Refused(12);
+    }
+    if s.len() - at < 3 {
+        return VersionRead::Refused(1);
+    }
+    let v = Version {
+        major: s[at],
+        minor: s[at + 1],
+        patch: s[at + 2],
+    };
+    VersionRead::Value(v, Cursor { at: at + 3 })
+}
+
+// Agent, version, name and address.
+fn read_head(s: &[u8], c: Cursor) -> HeadRead
+    ensures { λ r. ⌜ headAnswer r ≡ mapAnswer headOf (head (now (s .entry)) (c .at)) ⌝ }
+{
+    match c.read_short_string(s) {
+        PartRead::Value(agent, d) => match read_version(s, d) {
+            VersionRead::Value(version, e) => match e.read_short_string(s) {
+                PartRead::Value(name, f) => match read_declared_address(s, f) {
+                    AddressRead::Value(address, g) => HeadRead::Value(
+                        Head {
+                            agent,
+                            version,
+                            name,
+                            address,
+                        },
+                        g,
+                    ),
+                    AddressRead::Refused(m) => HeadRead::Refused(m),
+                },
+                PartRead::Refused(m) => HeadRead::Refused(m),
+            },
+            VersionRead::Refused(m) => HeadRead::Refused(m),
+        },
+        PartRead::Refused(m) => HeadRead::Refused(m),
+    }
+}
+
+// An address flag byte, and an address if it isn't 0.
+fn read_declared_address(s: &[u8], c: Cursor) -> AddressRead
+    ensures { λ r. ⌜ addressAnswer r ≡ declaredAddress (now (s .entry)) (c .at) ⌝ }
+{
+    match c.read_byte(s) {
+        ByteRead::Value(flag, d) => {
+            if flag == 0 {
+                AddressRead::Value(Address::None, d)
+            } else {
+                read_address(s, d)
+            }
+        }
+        ByteRead::Refused(m) => AddressRead::Refused(m),
+    }
+}
+
+// A length byte, four bytes fewer, and a port.
+fn read_address(s: &[u8], c: Cursor) -> AddressRead
+    ensures { λ r. ⌜ addressAnswer r ≡ address (now (s .entry)) (c .at) ⌝ }
+{
+    match c.read_byte(s) {
+        ByteRead::Value(l, d) => match d.read_part(s, minus_four(l)) {
+            PartRead::Value(bytes, e) => match e.read_vlq(s) {
+                VlqRead::Value(port, f) => {
+                    let a = address_of(s, l, bytes.start, (port % 65536) as u16);
+                    AddressRead::Value(a, f)
+                }
+                VlqRead::Refused(m) => AddressRead::Refused(m),
+            },
+            PartRead::Refused(m) => AddressRead::Refused(m),
+        },
+        ByteRead::Refused(m) => AddressRead::Refused(m),
+    }
+}
+
+// Four less, or 0.
+fn minus_four(l: u8) -> usize
+    ensures { λ r. ⌜ r ≡ l - 4 ⌝ }
+{
+    if l < 4 { 0 } else { (l - 4) as usize }
+}
+
+// The address whose length byte is l and whose bytes start at a place: IPv4 or IPv6, or none.
+fn address_of(s: &[u8], l: u8, at: usize, port: u16) -> Address
+    requires { ⌜ at + (l - 4) ≤ length (now s) ⌝ }
+    ensures { λ r. ⌜ r ≡ addressOf l (take (l - 4) (drop at (now (s .entry)))) port ⌝ }
+{
+    if l == 8 {
+        return Address::V4(number(s, at, 4) as u32, port);
+    }
+    if l == 20 {
+        return Address::V6(number(s, at, 8), number(s, at + 8, 8), port);
+    }
+    Address::None
+}
+
+// The number of n bytes, the highest first.
+fn number(s: &[u8], at: usize, n: usize) -> u64
+    requires { ⌜ (n ≤ 8) × (at + n ≤ length (now s)) ⌝ }
+    ensures { λ r. ⌜ (r ≡ bigEndian (take n (drop at (now (s .entry))))) × (r < 256 ^ n) ⌝ }
+{
+    let mut x: u64 = 0;
+    let mut i: usize = 0;
+    while i < n {
+        x = x * 256 + wide(s[at + i]);
+        i += 1;
+    }
+    x
+}
+
+fn wide(x: u8) -> u64
+    ensures { λ r. ⌜ r ≡ x ⌝ }
+{
+    x as u64
+}
+
+// A feature count byte, and the features.
+fn read_features(s: &[u8], c: Cursor) -> FeaturesRead
+    ensures { λ r. ⌜ featuresAnswer r ≡ mapAnswer featuresOf (features (now (s .entry)) (c .at)) ⌝ }
+{
+    match c.read_byte(s) {
+        ByteRead::Value(count, d) => {
+            let start = d.at;
+            match skip_features(s, d, count as usize) {
+                EndRead::Value(e) => FeaturesRead::Value(Features { count, start }, e),
+                EndRead::Refused(m) => FeaturesRead::Refused(m),
+            }
+        }
+        ByteRead::Refused(m) => FeaturesRead::Refused(m),
+    }
+}
+
+// n features: where they end.
+fn skip_features(s: &[u8], c: Cursor, n: usize) -> EndRead
+    ensures { λ r. ⌜ endAnswer r ≡ mapAnswer ended (listOf n (λ before. feature) (now (s .entry)) (c .at)) ⌝ }
+{
+    let mut d = c;
+    let mut i: usize = 0;
+    while i < n {
+        match read_feature(s, d) {
+            FeatureRead::Value(f, e) => {
+                d = e;
+                i += 1;
+            }
+            FeatureRead::Refused(m) => return EndRead::Refused(m),
+        }
+    }
+    EndRead::Value(d)
+}
+
+// A feature count byte, and the first of the features with an id.
+fn read_first(s: &[u8], c: Cursor, id: u8) -> FirstRead
+    ensures { λ r. ⌜ firstAnswer r ≡ mapAnswer (firstOf id) (features (now (s .entry)) (c .at)) ⌝ }
+{
+    match c.read_byte(s) {
+        ByteRead::Value(count, d) => first_feature(s, d, count, id),
+        ByteRead::Refused(m) => FirstRead::Refused(m),
+    }
+}
+
+// n features: the first of them with an id.
+fn first_feature(s: &[u8], c: Cursor, n: u8, id: u8) -> FirstRead
+    ensures { λ r. ⌜ firstAnswer r ≡ mapAnswer (firstIn id) (listOf n (λ before. feature) (now (s .entry)) (c .at)) ⌝ }
+{
+    let mut d = c;
+    let mut first = Found::None;
+    let mut i: u8 = 0;
+    while i < n {
+        match read_feature(s, d) {
+            FeatureRead::Value(f, e) => {
+                first = first_of(first, f, id);
+                d = e;
+                i += 1;
+            }
+            FeatureRead::Refused(m) => return FirstRead::Refused(m),
+        }
+    }
+    FirstRead::Value(first, d)
+}
+
+// What was found before, or this feature if it has the id.
+fn first_of(first: Found, f: Feature, id: u8) -> Found
+    ensures { λ r. ⌜ found r ≡ orThis id f (found first) ⌝ }
+{
+    match first {
+        Found::At(g) => Found::At(g),
+        Found::None => {
+            if f.id == id {
+                Found::At(f)
+            } else {
+                Found::None
+            }
+        }
+    }
+}
+
+fn verdict(s: &[u8], version: Version, first: Found, network: Network) -> u8
+    requires { ⌜ Inside (length (now s)) first ⌝ }
+    ensures { λ r. ⌜ r ≡ verdictOf network version (foundIn (now (s .entry)) first) ⌝ }
+{
+    if version.lt(Version::eip37_min()) {
+        return 1;
+    }
+    match first {
+        Found::At(f) => {
+            if f.body.len < 4 {
+                return 0;
+            }
+            if is_magic(s, f.body.start, network) {
+                0
+            } else {
+                2
+            }
+        }
+        Found::None => 0,
+    }
+}
+
+// Are the four bytes at a place the network's magic?
+fn is_magic(s: &[u8], at: usize, network: Network) -> bool
+    requires { ⌜ at + 4 ≤ length (now s) ⌝ }
+    ensures { λ r. ⌜ r ≡ sameBytes (take 4 (drop at (now (s .entry)))) (magicOf network) ⌝ }
+{
+    let magic = network.magic();
+    let mut i: usize = 0;
+    while i < 4 {
+        if s[at + i] != magic[i] {
+            return false;
+        }
+        i += 1;
+    }
+    true
+}
+
+// A length byte and that much UTF-8 within the body of a feature.
+fn url_of(s: &[u8], first: Found) -> Url
+    requires { ⌜ Inside (length (now s)) first ⌝ }
+    ensures { λ r. ⌜ url r ≡ partIfAny (urlOf (foundIn (now (s .entry)) first)) ⌝ }
+{
+    match first {
+        Found::At(f) => {
+            let start = f.body.start;
+            let end = start + f.body.len;
+            let c = Cursor { at: 0 };
+            match c.read_short_string(&s[start..end]) {
+                PartRead::Value(p, d) => Url::At(Part {
+                    start: start + p.start,
+                    len: p.len,
+                }),
+                PartRead::Refused(m) => Url::None,
+            }
+        }
+        Found::None => Url::None,
+    }
+}

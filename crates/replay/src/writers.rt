@@ -1,0 +1,41 @@
+// The writers' cases: a place and the room of the output, then what is written. The answer is the bytes written and their end, or the refusal.
+ghost use Prim.Native.Nat.{_≤_};
+use crate::input;
+use crate::input::MAX_ROOM;
+use crate::line;
+use crate::line::Line;
+use wire::Written;
+
+type Output = [u8; MAX_ROOM];
+
+pub(crate) fn answer(function: u8, s: &[u8], line: &mut Line, at: usize) -> usize {
+    let mut out = [0xA5u8; MAX_ROOM];
+    let place = input::number(s, 0) as usize;
+    let room = room_of(s);
+    match write(function, s, &mut out[0..room], place) {
+        Written::To(end) => written(&out, place, end, line, at),
+        Written::Refused(m) => line::refused(line, at, m),
+    }
+}
+
+fn write(function: u8, s: &[u8], out: &mut [u8], place: usize) -> Written {
+    match function {
+        6 => vlq_write::write_vlq(out, place, input::number(s, 16)),
+        7 => vlq_write::write_short_string(out, place, input::bytes_from(s, 16)),
+        _ => vlq_write::write_part(out, place, input::bytes_from(s, 16)),
+    }
+}
+
+// How many of the output's bytes the writer is lent.
+fn room_of(s: &[u8]) -> usize
+    ensures { λ r. ⌜ r ≤ 400 ⌝ }
+{
+    let room = input::number(s, 8) as usize;
+    if room <= MAX_ROOM { room } else { MAX_ROOM }
+}
+
+fn written(out: &Output, place: usize, end: usize, line: &mut Line, at: usize) -> usize {
+    let bytes = input::bytes_between(out, place, end);
+    let at = line::bytes(line, at, bytes);
+    line::number(line, at, end as u64)
+}
