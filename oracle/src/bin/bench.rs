@@ -25,7 +25,7 @@ struct Row {
 }
 
 fn rows() -> Vec<Row> {
-    vec![hash("hash of 16 MiB", 1.2, 16 << 20, 1), hash("hash of 100 bytes", 1.1, 100, 20_000)]
+    vec![hash("hash of 16 MiB", 1.4, 16 << 20, 1), hash("hash of 100 bytes", 1.2, 100, 20_000)]
 }
 
 fn hash(name: &'static str, bound: f64, length: usize, calls: usize) -> Row {
