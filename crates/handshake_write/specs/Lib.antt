@@ -2,3 +2,4 @@ pub mod Tables
 pub mod Writes
 pub mod TablesLaws
 pub mod WritesLaws
+pub mod Cases
