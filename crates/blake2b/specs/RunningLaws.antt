@@ -98,7 +98,7 @@ steps x s (suc k) l =
     ap (λ (y : Hash). stepped y (take bb (drop (k * bb) s))) (steps x s k (omega arith))
     ∙ stepped-whole (absorbed x s k) s k (omega arith)
 
--- THE THEOREM: a run that is split after any number of whole blocks, with some of the input left or nothing absorbed before,
+-- The theorem: a run that is split after any number of whole blocks, with some of the input left or nothing absorbed before,
 -- gives the RFC's digest of the whole input.
 pub run-digest : (nn : ℕ) (s : List ℕ) (k : ℕ) → length s < limit → (k ≡ 0) ⊎ (k * bb < length s) → run nn s k ≡ blake2b nn s
 unfolding run
@@ -107,8 +107,8 @@ run-digest nn s k l split =
     (λ m. ap (λ (x : Hash). finished nn x (drop (k * bb) s)) (steps (started nn) s k (omega arith)) ∙ finished-from nn (started nn) s k m
     ∙ finished-started nn s l) split
 
--- An empty rest is one more block, of zero bytes, which counts nothing: after k > 0 blocks this is not the RFC's digest of
--- those blocks, whose last one would be flagged as the last.
+-- An empty rest is one more block, of zero bytes, which counts nothing. The RFC has such a block only where the whole input
+-- is empty; after k > 0 blocks it flags the last of those instead, so the rest must hold that one.
 pub finished-empty : (nn : ℕ) (x : Hash) → finished nn x [] ≡ take nn (unwords (F (x .h) (words 16 (replicate bb 0)) (counted x 0) true))
 unfolding finished absorbed ended for d dd
 finished-empty nn x = refl

@@ -37,7 +37,7 @@ impl Hash {
     }
 
     // The digest of what was absorbed and the rest, whose blocks before its last are absorbed here. An empty rest
-    // is one block of zero bytes: that is the RFC's digest only where nothing was absorbed before.
+    // is one block of zero bytes, which the RFC has only where nothing was absorbed before.
     pub fn finish(self, rest: &[u8]) -> [u8; 32]
         ensures { λ r. ⌜ r ≡ finished 32 self (now (rest .entry)) ⌝ }
     {
