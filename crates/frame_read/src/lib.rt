@@ -2,7 +2,7 @@
 ghost use mathlib.Core.Path.{_≡_};
 ghost use Prim.Native.Nat.{_+_, _≤_, _<_};
 ghost use lib.ListN.{length, take, drop};
-ghost use Rattle.wire.specs.Bytes.{bigEndian, sameBytes};
+ghost use Rattle.wire.specs.Bytes.{bigEndian};
 ghost use Rattle.wire.specs.Reader.{mapAnswer};
 ghost use Rattle.vlq.specs.Vlq.{limit};
 ghost use Rattle.frame.specs.Frame.{body, frame};
@@ -52,7 +52,7 @@ pub fn decode(s: &[u8], network: Network, at: StreamPlace) -> FrameRead
         return FrameRead::Refused(5);
     }
     let magic = network.magic();
-    if !stands_at(s, start, magic) {
+    if !wire::stands_at(s, start, magic) {
         return FrameRead::Refused(6);
     }
     let n = number(s, start + 5);
@@ -81,7 +81,7 @@ fn read_body(s: &[u8], at: usize, n: usize) -> BodyRead
     let start = at + CHECK_SIZE;
     let end = start + n;
     let check = blake2b::check(&s[start..end]);
-    if !stands_at(s, at, check) {
+    if !wire::stands_at(s, at, check) {
         return BodyRead::Refused(9);
     }
     let body = StreamPart {
@@ -89,21 +89,6 @@ fn read_body(s: &[u8], at: usize, n: usize) -> BodyRead
         len: n,
     };
     BodyRead::Value(body, StreamPlace(end))
-}
-
-// Do these four bytes stand at a place?
-fn stands_at(s: &[u8], at: usize, four: [u8; 4]) -> bool
-    requires { ⌜ at + 4 ≤ length (now s) ⌝ }
-    ensures { λ r. ⌜ r ≡ sameBytes (take 4 (drop at (now (s .entry)))) four ⌝ }
-{
-    let mut i: usize = 0;
-    while i < 4 {
-        if s[at + i] != four[i] {
-            return false;
-        }
-        i += 1;
-    }
-    true
 }
 
 // The number of the four bytes at a place, the highest first.

@@ -5,3 +5,8 @@ pub mod Cases
 pub mod Value
 pub mod AddressLaws
 pub mod ValueLaws
+pub mod Tables
+pub mod Writes
+pub mod TablesLaws
+pub mod WritesLaws
+pub mod ModeCases

@@ -1,1 +1,26 @@
 // Entries and handshakes: their definitions and laws, in specs/. Readers stand in handshake_read, writers in handshake_write.
+// A writer gets lists as tables of u32 beside a lent buffer; these are the rows.
+
+// A feature: its id, and the place and length of its body in the buffer.
+pub struct FeatureRow {
+    pub id: u32,
+    pub at: u32,
+    pub len: u32,
+}
+
+// An entry: the place and length of its agent, three version numbers, the place and length of its name, the address length byte L
+// (0: none, its place unread), the place of its L - 4 bytes, the port, the first row of its features and their number.
+pub struct EntryRow {
+    pub agentat: u32,
+    pub agentlen: u32,
+    pub major: u32,
+    pub minor: u32,
+    pub patch: u32,
+    pub nameat: u32,
+    pub namelen: u32,
+    pub addrlen: u32,
+    pub addrat: u32,
+    pub port: u32,
+    pub first: u32,
+    pub count: u32,
+}

@@ -6,11 +6,10 @@ use mathlib.Core.Option.{none, some}
 use mathlib.Core.Path.{_≡_, refl, ap, sym, _∙_}
 use lib.Dec.{eqb}
 use Rattle.wire.specs.Reader.{got, refused, mapAnswer, listOf}
-use Rattle.wire.specs.ReaderLaws.{FoldSoFar, fold-start, fold-turn, fold-refused, fold-end}
+use Rattle.wire.specs.ReaderLaws.{FoldSoFar, fold-start, fold-turn, fold-refused, fold-end, map-value, map-refusal}
 use Rattle.handshake.specs.Entry.{EntryFeature, feature}
 use Rattle.handshake.specs.Verdict.{firstFeature}
 use Rattle.handshake_read.specs.Answers.{featureOf, featureIfAny, firstIn, orThis}
-use Rattle.handshake_read.specs.AnswerLaws.{map-value, map-refusal}
 use Rattle.handshake_read.specs.PartsLaws.{turn}
 
 -- i of the n features are read; b is what is seen of them

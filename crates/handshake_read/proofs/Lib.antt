@@ -2,7 +2,6 @@ pub mod NumberLoop
 pub mod AddressLaws
 pub mod FeaturesLoop
 pub mod FoundLaws
-pub mod MagicLoop
 pub mod VerdictLaws
 pub mod UrlLaws
 pub mod IndexLaws

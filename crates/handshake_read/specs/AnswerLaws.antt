@@ -3,7 +3,7 @@ use Prim.Native.Nat.{ℕ, _+_, _≤_, _<_}
 use mathlib.Core.List.{List}
 use mathlib.Core.Path.{_≡_, refl}
 use lib.ListN.{length, getD}
-use Rattle.wire.specs.Reader.{got, refused, mapAnswer}
+use Rattle.wire.specs.Reader.{got, refused}
 use Rattle.wire.specs.ReaderLaws.{field-got, field-missing, field-outside}
 use Rattle.types.specs.declared.Version.{Version}
 use Rattle.handshake.specs.Entry.{version}
@@ -12,15 +12,6 @@ use Rattle.handshake_read.specs.declared.Features.{Features}
 use Rattle.handshake_read.specs.Parts.{EntryHead, EntryFeatures}
 use Rattle.handshake_read.specs.PartsLaws.{entryOf}
 use Rattle.handshake_read.specs.Answers.{headOf, featuresOf, peerSpecOf}
-
--- an answer seen through a function
-pub map-value : {A B : Type 0} (f : A → B) (a : A) (next : ℕ) → mapAnswer f (got a next) ≡ got (f a) next
-unfolding mapAnswer
-map-value f a next = refl
-
-pub map-refusal : {A B : Type 0} (f : A → B) (m : ℕ) → mapAnswer f (refused m) ≡ refused m
-unfolding mapAnswer
-map-refusal f m = refl
 
 versionAt : List ℕ → ℕ → Version
 versionAt s at = record { major = getD s at 0; minor = getD s (at + 1) 0; patch = getD s (at + 2) 0 }

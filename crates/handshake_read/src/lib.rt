@@ -2,9 +2,8 @@
 ghost use mathlib.Core.Path.{_≡_};
 ghost use Prim.Native.Nat.{_+_, _-_, _^_, _≤_, _<_};
 ghost use lib.ListN.{length, take, drop};
-ghost use Rattle.wire.specs.Bytes.{bigEndian, sameBytes};
+ghost use Rattle.wire.specs.Bytes.{bigEndian};
 ghost use Rattle.wire.specs.Reader.{andThen, place, mapAnswer, listOf};
-ghost use Rattle.types.specs.Magic.{magicOf};
 ghost use Rattle.handshake.specs.Entry.{version, addressOf, address, feature, entry, handshake};
 ghost use Rattle.handshake.specs.Verdict.{validatePeer, urlOf};
 ghost use Rattle.handshake_read.specs.Parts.{declaredAddress, head, features, featureAt, verdictOf};
@@ -470,7 +469,7 @@ fn verdict(s: &[u8], version: Version, first: Found, network: Network) -> u8
             if f.body.len < 4 {
                 return 0;
             }
-            if is_magic(s, f.body.start, network) {
+            if wire::stands_at(s, f.body.start, network.magic()) {
                 0
             } else {
                 2
@@ -478,22 +477,6 @@ fn verdict(s: &[u8], version: Version, first: Found, network: Network) -> u8
         }
         Found::None => 0,
     }
-}
-
-// Are the four bytes at a place the network's magic?
-fn is_magic(s: &[u8], at: usize, network: Network) -> bool
-    requires { ⌜ at + 4 ≤ length (now s) ⌝ }
-    ensures { λ r. ⌜ r ≡ sameBytes (take 4 (drop at (now (s .entry)))) (magicOf network) ⌝ }
-{
-    let magic = network.magic();
-    let mut i: usize = 0;
-    while i < 4 {
-        if s[at + i] != magic[i] {
-            return false;
-        }
-        i += 1;
-    }
-    true
 }
 
 // A length byte and that much UTF-8 within the body of a feature.

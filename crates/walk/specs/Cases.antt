@@ -18,19 +18,20 @@ use Rattle.types.specs.declared.Network.{Network}
 use Rattle.types.specs.declared.Network.the-variants.{Mainnet, Testnet}
 use Rattle.address_sanity.specs.Ranges.{alwaysV4, alwaysV6, mainnetV4, mainnetV6}
 use Rattle.address_sanity.specs.Bogus.{contains, someContains, bogus}
-use Rattle.handshake_write.specs.Tables as Tables
-use Rattle.handshake_write.specs.Writes.{rowInside, handshakeWritten}
+use Rattle.handshake.specs.Tables as Tables
+use Rattle.handshake.specs.Writes.{rowInside, handshakeWritten}
 use Rattle.handshake.specs.Entry.{version, addressOf, address, addressIf, feature, entry, handshake}
 use Rattle.handshake.specs.Value as Values
 use Rattle.handshake.specs.Verdict.{firstFeature, otherMagic, validatePeer}
 use Rattle.frame.specs.Frame.{header, body, frame, checkedBytes, frameBytes}
 use Rattle.messages.specs.Message.{getPeers, count, ids, peersBody, message}
 use Rattle.messages.specs.Value.{codeOf, bodyBytes, entriesOf, payloadsWithin, countWithin, unknownCode, codeFree, messageAsked}
-use Rattle.messages_write.specs.Writes.{writeGetPeers, writeUnknown, valueOf, messageWhole, messageInside, messageWritten}
+use Rattle.messages.specs.Writes.{writeGetPeers, writeUnknown, valueOf, messageWhole, messageInside, messageWritten}
 use Rattle.walk.specs.Walk as Walk
 use Rattle.walk.specs.Walk.{Layer, Opened, opened, refusedIn, Item, Step, item, cleanEnd, stop, outside, Ending, clean, stopped, Reading, isCut, stepTo, onward, step, walkIn, walk, reading}
 use Rattle.walk.specs.CutRule.{endBy}
-use Rattle.walk.specs.Session.{handshakeFields, messageFields, Verdict, peerVerdict, peersVerdict, noVerdict, Content, bogusCount, messageVerdict, handshakeItem, messageItem, frameItem, handshakeAt, messageAt, sessionStep, sessionReading}
+use Rattle.messages.specs.Bogus.{bogusCount}
+use Rattle.walk.specs.Session.{handshakeFields, messageFields, Verdict, peerVerdict, peersVerdict, noVerdict, Content, messageVerdict, handshakeItem, messageItem, frameItem, handshakeAt, messageAt, sessionStep, sessionReading}
 use Rattle.walk.specs.WrittenSession as Writes
 use Rattle.walk.specs.WrittenSession.{bytesTyped, MessageTyped, Typed, AllTyped, isHandshake, HandshakeFirst, first, Write, writeHandshake, writeMessage, said, writeBytes, after, writeAll}
 

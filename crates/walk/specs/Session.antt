@@ -1,14 +1,13 @@
 -- A session of a network with a Peers cap (document 01, "The session walk"): what its items hold, and its reading.
-use Prim.Native.Nat.{ℕ, suc}
-use mathlib.Core.Bool.{cond}
-use mathlib.Core.List.{List, [], _∷_}
+use Prim.Native.Nat.{ℕ}
+use mathlib.Core.List.{List}
 use lib.ListN.{length}
 use Rattle.wire.specs.Reader.{Answer, got, refused}
 use Rattle.types.specs.declared.Network.{Network}
-use Rattle.address_sanity.specs.Bogus.{bogus}
-use Rattle.handshake.specs.Entry.{Entry, EntryHandshake, handshake}
+use Rattle.handshake.specs.Entry.{EntryHandshake, handshake}
 use Rattle.handshake.specs.Verdict.{validatePeer}
 use Rattle.frame.specs.Frame.{BodyFrame, frame}
+use Rattle.messages.specs.Bogus.{bogusCount}
 use Rattle.messages.specs.Message.{Message, getPeers, peers, modifierRequest, modifierResponse, inv, syncInfo, unknown, message}
 use Rattle.walk.specs.Walk.{Opened, opened, refusedIn, Step, Reading, step, reading}
 use Rattle.walk.specs.Walk as Walk
@@ -29,13 +28,8 @@ pub record Content : Type 0 where
   pub verdict : Verdict
 
 module _ (network : Network) where
-  -- how many entries have a bogus address; no address isn't bogus
-  unfoldable pub bogusCount : List Entry → ℕ
-  bogusCount [] = 0
-  bogusCount (e ∷ es) = cond (bogus (e .address) network) (suc (bogusCount es)) (bogusCount es)
-
   unfoldable pub messageVerdict : Message → Verdict
-  messageVerdict (peers es) = peersVerdict (length es) (bogusCount es)
+  messageVerdict (peers es) = peersVerdict (length es) (bogusCount network es)
   messageVerdict getPeers = noVerdict
   messageVerdict (modifierRequest type ids) = noVerdict
   messageVerdict (modifierResponse type ps) = noVerdict

@@ -18,15 +18,15 @@ use Rattle.types.specs.declared.Network.{Network}
 use Rattle.handshake.specs.Entry.{EntryHandshake, handshake}
 use Rattle.handshake.specs.EntryLaws.{stable-handshake, least-handshake}
 use Rattle.handshake.specs.Value.{HandshakeValue, handshakeValue, handshakeBytes}
-use Rattle.handshake_write.specs.Writes.{handshakeWritten, built, builtWritten}
-use Rattle.handshake_write.specs.WritesLaws.{handshake-reads-back, built-reads-back}
+use Rattle.handshake.specs.Writes.{handshakeWritten, built, builtWritten}
+use Rattle.handshake.specs.WritesLaws.{handshake-reads-back, built-reads-back}
 use Rattle.frame.specs.Frame.{BodyFrame, frame}
 use Rattle.frame.specs.FrameLaws.{stable-frame, least-frame, FrameValue, reads-frame}
 use Rattle.messages.specs.Message.{Message, message}
 use Rattle.messages.specs.MessageLaws.{ReadAs}
 use Rattle.messages.specs.Value.{MessageValue, codeOf, bodyBytes}
-use Rattle.messages_write.specs.Writes.{MessageWrite, valueOf, messageBytes, messageWritten}
-use Rattle.messages_write.specs.WritesLaws.{PeersTyped, message-reads-back}
+use Rattle.messages.specs.Writes.{MessageWrite, valueOf, messageBytes, messageWritten}
+use Rattle.messages.specs.WritesLaws.{PeersTyped, message-reads-back}
 use Rattle.walk.specs.Walk as Walk
 use Rattle.walk.specs.Walk.{Opened, opened, isCut}
 use Rattle.walk.specs.WalkLaws as Laws

@@ -11,11 +11,11 @@ use Rattle.wire.specs.declared.Written.{Written}
 use Rattle.wire.specs.declared.Written.the-variants.{To, Refused}
 use Rattle.types.specs.declared.Network.{Network}
 use Rattle.handshake.specs.Value.{AddressTyped, HandshakeValue, handshakeValue, handshakeBytes}
-use Rattle.handshake_write.specs.Tables.{Lent}
-use Rattle.handshake_write.specs.Writes.{Config, built, builtWritten, handshakeAt, handshakeWritten}
+use Rattle.handshake.specs.Tables.{Lent}
+use Rattle.handshake.specs.Writes.{Config, built, builtWritten, handshakeAt, handshakeWritten}
 use Rattle.messages.specs.Value.{MessageValue, messageValue}
-use Rattle.messages_write.specs.Writes as Messages
-use Rattle.messages_write.specs.Writes.{MessageWrite, messageBytes, messageWritten}
+use Rattle.messages.specs.Writes as Messages
+use Rattle.messages.specs.Writes.{MessageWrite, messageBytes, messageWritten}
 use Rattle.walk.specs.Walk.{Item}
 use Rattle.walk.specs.Session.{Fields, handshakeFields, messageFields, Content}
 

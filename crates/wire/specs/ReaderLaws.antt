@@ -49,6 +49,14 @@ module _ (n : ℕ) (s : List ℕ) (at : ℕ) where
 
 -- ---- answers seen through a function
 
+pub map-value : {A B : Type 0} (f : A → B) (a : A) (next : ℕ) → mapAnswer f (got a next) ≡ got (f a) next
+unfolding mapAnswer
+map-value f a next = refl
+
+pub map-refusal : {A B : Type 0} (f : A → B) (m : ℕ) → mapAnswer f (refused m) ≡ refused m
+unfolding mapAnswer
+map-refusal f m = refl
+
 pub map-got : {A B : Type 0} (f : A → B) {r : Answer A} {b : B} {next : ℕ} → mapAnswer f r ≡ got b next → (a : A) × (r ≡ got a next) × (f a ≡ b)
 unfolding mapAnswer
 map-got f {r = got a n} {b = b} {next = next} e = (a, ap (got a) (cc), cc)

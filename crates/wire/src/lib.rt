@@ -1,4 +1,7 @@
-// What readers and writers of the wire format have in common: a part of the bytes, and what a writer says.
+// What readers and writers of the wire format have in common: a part of the bytes, what a writer says, and a comparison.
+ghost use mathlib.Core.Path.{_≡_};
+ghost use lib.ListN.{take, drop};
+ghost use Rattle.wire.specs.Bytes.{sameBytes};
 
 // Consecutive bytes: where they start, and how many they are.
 pub struct Part {
@@ -10,4 +13,24 @@ pub struct Part {
 pub enum Written {
     To(usize),
     Refused(u8),
+}
+
+// Do these four bytes stand at a place?
+pub fn stands_at(s: &[u8], at: usize, four: [u8; 4]) -> bool
+    ensures { λ r. ⌜ r ≡ sameBytes (take 4 (drop at (now (s .entry)))) four ⌝ }
+{
+    if s.len() < at {
+        return false;
+    }
+    if s.len() - at < 4 {
+        return false;
+    }
+    let mut i: usize = 0;
+    while i < 4 {
+        if s[at + i] != four[i] {
+            return false;
+        }
+        i += 1;
+    }
+    true
 }

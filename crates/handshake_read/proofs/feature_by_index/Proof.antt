@@ -1,7 +1,6 @@
 -- `handshake_read::feature_by_index` meets its contract: the feature that is read after those before it is the one with the index.
 use mathlib.Core.Path.{sym, ap, _∙_}
-use Rattle.wire.specs.ReaderLaws.{map-got, map-refused}
-use Rattle.handshake_read.specs.AnswerLaws.{map-refusal}
+use Rattle.wire.specs.ReaderLaws.{map-got, map-refused, map-refusal}
 use denote.Ref.{now}
 use Rattle.handshake_read.specs.Answers.{peerSpecOf, entryAnswer, ended, endAnswer}
 use Rattle.handshake_read.specs.Parts.{featureAt}

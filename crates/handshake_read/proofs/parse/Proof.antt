@@ -1,7 +1,6 @@
 -- `handshake_read::parse` meets its contract: the definition, rewritten with what each of its readers answered.
 use mathlib.Core.Path.{sym, ap, _∙_}
-use Rattle.wire.specs.ReaderLaws.{map-got, map-refused}
-use Rattle.handshake_read.specs.AnswerLaws.{map-value, map-refusal}
+use Rattle.wire.specs.ReaderLaws.{map-got, map-refused, map-value, map-refusal}
 use Rattle.vlq.specs.Answers.{vlqAnswer}
 use Rattle.handshake.specs.Entry.{handshake}
 use Rattle.handshake_read.specs.Answers.{peerSpecOf, entryAnswer}

@@ -1,7 +1,7 @@
 -- `handshake_read::parse_peer_entry` meets its contract: an entry is its head and then its features.
 use mathlib.Core.Path.{sym, ap, _∙_}
-use Rattle.wire.specs.ReaderLaws.{map-got, map-refused}
-use Rattle.handshake_read.specs.AnswerLaws.{map-value, map-refusal, peer-read}
+use Rattle.wire.specs.ReaderLaws.{map-got, map-refused, map-value, map-refusal}
+use Rattle.handshake_read.specs.AnswerLaws.{peer-read}
 use denote.Ref.{now}
 use Rattle.handshake_read.specs.PartsLaws.{entry-parts}
 use Rattle.handshake_read.specs.Answers.{headOf, headAnswer, featuresOf, featuresAnswer}

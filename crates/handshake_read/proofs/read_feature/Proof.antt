@@ -1,8 +1,7 @@
 -- `handshake_read::read_feature` meets its contract: the definition, rewritten with what each of its readers answered.
 use mathlib.Core.Path.{sym, ap, _∙_}
 use Rattle.wire.specs.Reader.{partOf}
-use Rattle.handshake_read.specs.AnswerLaws.{map-value, map-refusal}
-use Rattle.wire.specs.ReaderLaws.{map-got, map-refused}
+use Rattle.wire.specs.ReaderLaws.{map-got, map-refused, map-value, map-refusal}
 use Rattle.vlq.specs.Answers.{byteAnswer, vlqAnswer, partAnswer}
 use Rattle.handshake.specs.Entry.{feature}
 use borrow.Author.Needs.{needs}

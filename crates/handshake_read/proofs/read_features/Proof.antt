@@ -1,7 +1,6 @@
 -- `handshake_read::read_features` meets its contract: as many features are listed as the count says.
 use mathlib.Core.Path.{sym, ap, _∙_}
-use Rattle.wire.specs.ReaderLaws.{map-got, map-refused}
-use Rattle.handshake_read.specs.AnswerLaws.{map-value, map-refusal}
+use Rattle.wire.specs.ReaderLaws.{map-got, map-refused, map-value, map-refusal}
 use Rattle.vlq.specs.Answers.{byteAnswer}
 use Rattle.handshake_read.specs.Parts.{features}
 use Rattle.handshake_read.specs.PartsLaws.{listed}

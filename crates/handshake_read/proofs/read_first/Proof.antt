@@ -1,6 +1,6 @@
 -- `handshake_read::read_first` meets its contract: the features after the count byte that was read.
+use Rattle.wire.specs.ReaderLaws.{map-refusal}
 use mathlib.Core.Path.{sym, ap, _∙_}
-use Rattle.handshake_read.specs.AnswerLaws.{map-refusal}
 use Rattle.vlq.specs.Answers.{byteAnswer}
 use denote.Ref.{now}
 use Rattle.handshake_read.specs.Parts.{features}

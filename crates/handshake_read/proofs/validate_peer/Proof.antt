@@ -1,6 +1,6 @@
 -- `handshake_read::validate_peer` meets its contract: the entry after the timestamp that was read.
+use Rattle.wire.specs.ReaderLaws.{map-refusal}
 use mathlib.Core.Path.{sym, ap, _∙_}
-use Rattle.handshake_read.specs.AnswerLaws.{map-refusal}
 use Rattle.vlq.specs.Answers.{vlqAnswer}
 use denote.Ref.{now}
 use Rattle.handshake.specs.Entry.{handshake}

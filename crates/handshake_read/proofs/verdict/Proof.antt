@@ -1,5 +1,7 @@
 -- `handshake_read::verdict` meets its contract: by the version, and the bytes of the feature that was found.
-use mathlib.Core.Path.{sym, _∙_}
+use mathlib.Core.Path.{ap, sym, _∙_}
+use lib.ListN.{take, drop}
+use Rattle.wire.specs.Bytes.{sameBytes}
 use native.Mathlib.Omega.{arith}
 use denote.Ref.{now}
 use mathlib.Core.Bool.{true, false}
@@ -19,26 +21,21 @@ returns-2 c =
     let i = rw g at (c .before .before .before .before .before .before .before .before .before .pre) in
     rw g (verdict-short (a .network) (a .version) (now (a .s)) f (below-min (a .version) (c .before .before .before .before .before .before .lt .ensures) (c .before .before .before .before .before .before .before .eip37-min .ensures) (c .before .before .before .before .before .if1 .left)) i (c .if2 .taken))
 
-is-magic-requires : tie.Need-is-magic-requires
-is-magic-requires c κs =
-    let g = c .before .before .before .first .given .1 in
-    omega (arith, rw g at (c .before .before .before .before .before .before .before .before .before .pre))
-
 returns-3 : tie.Need-returns-3
 returns-3 c =
-    let a = c .before .before .before .before .before .before .before .before .before .before .before .args in
-    let g = c .before .before .before .before .before .first .given .1 in
-    let f = c .before .before .before .before .before .first .given .0 .0 in
-    let i = rw g at (c .before .before .before .before .before .before .before .before .before .before .before .pre) in
-    rw g (verdict-magic (a .network) (a .version) (now (a .s)) f true (below-min (a .version) (c .before .before .before .before .before .before .before .before .lt .ensures) (c .before .before .before .before .before .before .before .before .before .eip37-min .ensures) (c .before .before .before .before .before .before .before .if1 .left)) i (c .before .before .if2 .left) (sym (c .if3 .taken) ∙ c .before .is-magic .ensures))
+    let a = c .before .before .before .before .before .before .before .before .before .before .before .before .args in
+    let g = c .before .before .before .before .before .before .first .given .1 in
+    let f = c .before .before .before .before .before .before .first .given .0 .0 in
+    let i = rw g at (c .before .before .before .before .before .before .before .before .before .before .before .before .pre) in
+    rw g (verdict-magic (a .network) (a .version) (now (a .s)) f true (below-min (a .version) (c .before .before .before .before .before .before .before .before .before .lt .ensures) (c .before .before .before .before .before .before .before .before .before .before .eip37-min .ensures) (c .before .before .before .before .before .before .before .before .if1 .left)) i (c .before .before .before .if2 .left) (sym (c .if3 .taken) ∙ c .before .stands-at .ensures ∙ ap (sameBytes (take 4 (drop (f .body .start) (now (a .s))))) (c .before .before .magic .ensures)))
 
 returns-4 : tie.Need-returns-4
 returns-4 c =
-    let a = c .before .before .before .before .before .before .before .before .before .before .before .args in
-    let g = c .before .before .before .before .before .first .given .1 in
-    let f = c .before .before .before .before .before .first .given .0 .0 in
-    let i = rw g at (c .before .before .before .before .before .before .before .before .before .before .before .pre) in
-    rw g (verdict-magic (a .network) (a .version) (now (a .s)) f false (below-min (a .version) (c .before .before .before .before .before .before .before .before .lt .ensures) (c .before .before .before .before .before .before .before .before .before .eip37-min .ensures) (c .before .before .before .before .before .before .before .if1 .left)) i (c .before .before .if2 .left) (sym (c .if3 .left) ∙ c .before .is-magic .ensures))
+    let a = c .before .before .before .before .before .before .before .before .before .before .before .before .args in
+    let g = c .before .before .before .before .before .before .first .given .1 in
+    let f = c .before .before .before .before .before .before .first .given .0 .0 in
+    let i = rw g at (c .before .before .before .before .before .before .before .before .before .before .before .before .pre) in
+    rw g (verdict-magic (a .network) (a .version) (now (a .s)) f false (below-min (a .version) (c .before .before .before .before .before .before .before .before .before .lt .ensures) (c .before .before .before .before .before .before .before .before .before .before .eip37-min .ensures) (c .before .before .before .before .before .before .before .before .if1 .left)) i (c .before .before .before .if2 .left) (sym (c .if3 .left) ∙ c .before .stands-at .ensures ∙ ap (sameBytes (take 4 (drop (f .body .start) (now (a .s))))) (c .before .before .magic .ensures)))
 
 returns-5 : tie.Need-returns-5
 returns-5 c =
@@ -54,7 +51,8 @@ verdict-spec =
     returns
     (λ c. search needs)
     returns-2
-    is-magic-requires
+    (λ c κs. search needs)
+    (λ c κs. search needs)
     (λ c. search needs)
     returns-3
     returns-4

@@ -6,10 +6,10 @@ use mathlib.Core.List.{List, [], _∷_, map}
 use lib.Dec.{eqb, leb, ltb}
 use lib.ListN.{length, getD, take, drop}
 use Rattle.wire.specs.Bytes.{every}
 use Rattle.handshake.specs.Entry.{addressOf}
 use Rattle.handshake.specs.Value.{FeatureValue, EntryValue}
-use Rattle.handshake_write.specs.declared.FeatureRow.{FeatureRow}
-use Rattle.handshake_write.specs.declared.EntryRow.{EntryRow}
+use Rattle.handshake.specs.declared.FeatureRow.{FeatureRow}
+use Rattle.handshake.specs.declared.EntryRow.{EntryRow}
 
 -- ---- rows
 

@@ -11,11 +11,11 @@ use borrow.Author.Tests.{leb-true, ltb-true, eqb-true}
 use Rattle.wire.specs.Bytes.{every}
 use Rattle.wire.specs.BytesLaws.{and-true, every-take, every-drop, isByte}
 use Rattle.wire.specs.Numbers.{lt-or-ge}
 use Rattle.handshake.specs.Value.{AddressTyped}
 use Rattle.handshake.specs.AddressLaws.{addressOf-typed}
-use Rattle.handshake_write.specs.declared.EntryRow.{EntryRow}
-use Rattle.handshake_write.specs.Tables.{rows, entryRow, Lent, entryRows, bytesAt, entryOf, wholeRows, entryNumbers, tablesWhole, inside, entryInside}
-use Rattle.handshake_write.specs.Writes.{rowInside}
+use Rattle.handshake.specs.declared.EntryRow.{EntryRow}
+use Rattle.handshake.specs.Tables.{rows, entryRow, Lent, entryRows, bytesAt, entryOf, wholeRows, entryNumbers, tablesWhole, inside, entryInside}
+use Rattle.handshake.specs.Writes.{rowInside}
 
 or-true : (t u : Bool) → t || u ≡ true → (t ≡ true) ⊎ (u ≡ true)
 or-true true u e = inl refl

@@ -14,13 +14,13 @@ use Rattle.vlq.specs.Vlq.{limit}
 use Rattle.types.specs.declared.Network.{Network}
 use Rattle.handshake.specs.Value.{AddressTyped, EntryValue, entriesAsked}
 use Rattle.handshake.specs.ValueLaws.{Holds}
-use Rattle.handshake_write.specs.Tables.{Lent, entryRows, bytesAt, entryOf, entriesOf, tablesWhole, entryNumbers, inside, entryInside}
-use Rattle.handshake_write.specs.TablesLaws.{length-bytesAt, whole-entries, row-address}
-use Rattle.handshake_write.specs.WritesLaws.{hold-each}
+use Rattle.handshake.specs.Tables.{Lent, entryRows, bytesAt, entryOf, entriesOf, tablesWhole, entryNumbers, inside, entryInside}
+use Rattle.handshake.specs.TablesLaws.{length-bytesAt, whole-entries, row-address}
+use Rattle.handshake.specs.WritesLaws.{hold-each}
 use Rattle.messages.specs.MessageLaws.{idsIn, WritableMessage, ReadAs, reads-message}
 use Rattle.messages.specs.Value as Values
 use Rattle.messages.specs.Value.{PayloadValue, MessageValue, bodyBytes, messageAsked}
-use Rattle.messages_write.specs.Writes.{idPlaces, idsOf, payloadRows, payloadOf, payloadInside, MessageWrite, writeGetPeers, writePeers, writeModifierRequest, writeModifierResponse, writeInv, writeSyncInfo, writeUnknown, valueOf, messageWhole, messageInside, messageWritten}
+use Rattle.messages.specs.Writes.{idPlaces, idsOf, payloadRows, payloadOf, payloadInside, MessageWrite, writeGetPeers, writePeers, writeModifierRequest, writeModifierResponse, writeInv, writeSyncInfo, writeUnknown, valueOf, messageWhole, messageInside, messageWritten}
 
 -- ---- rows
 

@@ -1,18 +1,16 @@
--- The writers of messages and of raw frames: what each is given, what that means by value, its questions, and the bytes it writes.
+-- The writers of messages: what each is given, what that means by value, its questions, and the bytes it writes.
 use Prim.Native.Nat.{ℕ, _+_, _*_, _/_}
 use mathlib.Core.Bool.{Bool, true, _&&_}
 use mathlib.Core.List.{List, [], _∷_, map}
-use lib.Dec.{leb}
 use lib.ListN.{length, getD}
 use Rattle.wire.specs.Bytes.{every}
 use Rattle.wire.specs.Output.{Question, ask, written}
 use Rattle.wire.specs.declared.Written.{Written}
-use Rattle.vlq.specs.Vlq.{limit}
 use Rattle.types.specs.declared.Network.{Network}
 use Rattle.frame.specs.Frame.{frameBytes}
-use Rattle.handshake_write.specs.Tables.{Lent, rows, bytesAt, entryRows, entriesOf, wholeRows, tablesWhole, inside, entryInside}
+use Rattle.handshake.specs.Tables.{Lent, rows, bytesAt, entryRows, entriesOf, wholeRows, tablesWhole, inside, entryInside}
 use Rattle.messages.specs.Value.{PayloadValue, MessageValue, getPeersValue, peersValue, modifierRequestValue, modifierResponseValue, invValue, syncInfoValue, unknownValue, codeOf, bodyBytes, messageAsked}
-use Rattle.messages_write.specs.declared.PayloadRow.{PayloadRow}
+use Rattle.messages.specs.declared.PayloadRow.{PayloadRow}
 
 -- ---- tables of ids and of payloads
 
@@ -85,9 +83,3 @@ messageBytes network m = frameBytes network (codeOf m) (bodyBytes m)
 unfoldable pub messageWritten : Network → ℕ → MessageWrite → List ℕ → ℕ → Written
 messageWritten network cap w out at =
     written (ask 16 (messageWhole w) ∷ []) (ask 12 (messageInside w) ∷ messageAsked cap (valueOf w)) out at (messageBytes network (valueOf w))
-
--- ---- a raw frame, of any code
-
--- Is the body within 7?
-unfoldable pub frameWritten : Network → ℕ → List ℕ → List ℕ → ℕ → Written
-frameWritten network code body out at = written [] (ask 7 (leb (length body) limit) ∷ []) out at (frameBytes network code body)

@@ -15,8 +15,8 @@ use Rattle.types.specs.declared.ProxyMode.the-variants.{Full, Light}
 use Rattle.types.specs.declared.Version.{Version}
 use Rattle.types.specs.declared.Address.{Address}
 use Rattle.types.specs.Magic.{magicOf}
 use Rattle.handshake.specs.Value.{FeatureValue, EntryValue, HandshakeValue, entryBytes, handshakeBytes, entriesAsked}
-use Rattle.handshake_write.specs.Tables.{Lent, entryRow, entryOf, tablesWhole, entryInside}
+use Rattle.handshake.specs.Tables.{Lent, entryRow, entryOf, tablesWhole, entryInside}
 
 -- ---- from a row of a table
 

@@ -12,8 +12,8 @@ use Rattle.types.specs.declared.ProxyMode.the-variants.{Full, Light}
 use Rattle.types.specs.declared.Address.the-variants.{None}
 use Rattle.vlq.specs.Vlq.{vlqIn, vlqBytes}
 use Rattle.zigzag.specs.Zigzag.{zigzagEncode}
 use Rattle.handshake.specs.Value.{FeatureValue}
-use Rattle.handshake_write.specs.Writes.{Config, nipopow, modeFeature, sessionFeature}
+use Rattle.handshake.specs.Writes.{Config, nipopow, modeFeature, sessionFeature}
 
 pub record Case : Type 0 where
   pub network : Network

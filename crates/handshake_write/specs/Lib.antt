@@ -1,5 +1,0 @@
-pub mod Tables
-pub mod Writes
-pub mod TablesLaws
-pub mod WritesLaws
-pub mod Cases
