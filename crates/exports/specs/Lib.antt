@@ -1,1 +1,3 @@
 pub mod Results
+pub mod Entries
+pub mod Frames

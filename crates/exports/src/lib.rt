@@ -13,6 +13,10 @@ ghost use Rattle.types.specs.declared.Address.the-variants.{V4, V6};
 ghost use Rattle.address_sanity.specs.Bogus.{bogus};
 ghost use Rattle.blake2b.specs.Blake2b.{blake2b256, check};
 ghost use Rattle.exports.specs.Results.{numberOf, arrayAfter, valueNext, partNext, writtenNumber, endAfter, bit, networkOf};
+
+mod frames;
+mod handshakes;
+
 use types::Address;
 use types::Network;
 use vlq::ByteRead;

@@ -1,0 +1,29 @@
+// Frames for Rust and C.
+ghost use mathlib.Core.Path.{_≡_};
+ghost use Rattle.wire.specs.Reader.{mapAnswer};
+ghost use Rattle.frame.specs.Frame.{frame};
+ghost use Rattle.frame_read.specs.Answers.{frameOf};
+ghost use Rattle.exports.specs.Results.{numberOf, arrayAfter, networkOf};
+ghost use Rattle.exports.specs.Frames.{frameNext};
+use frame_read::FrameRead;
+use types::StreamPlace;
+
+// The frame at a place: r is its code, the place and length of its body, and the next place.
+#[no_mangle]
+pub extern "C" fn haspeljo_decode(s: &[u8], mainnet: u8, at: usize, r: &mut [u64; 4]) -> u8
+    ensures { λ n. ⌜ n ≡ numberOf (mapAnswer frameOf (frame (networkOf mainnet) (now (s .entry)) at)) ⌝ }
+    ensures { λ n. ⌜ now (r .exit) ≡ arrayAfter frameNext (mapAnswer frameOf (frame (networkOf mainnet) (now (s .entry)) at)) (now (r .entry)) ⌝ }
+{
+    match frame_read::decode(s, crate::network_of(mainnet), StreamPlace(at)) {
+        FrameRead::Value(f, next) => {
+            *r = [
+                f.code as u64,
+                f.body.start.0 as u64,
+                f.body.len as u64,
+                next.0 as u64,
+            ];
+            0
+        }
+        FrameRead::Refused(m) => m,
+    }
+}

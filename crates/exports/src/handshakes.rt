@@ -1,0 +1,206 @@
+// Entries and handshakes for Rust and C.
+ghost use mathlib.Core.Path.{_≡_};
+ghost use Rattle.wire.specs.Reader.{andThen, place, mapAnswer};
+ghost use Rattle.handshake.specs.Entry.{feature, entry, handshake};
+ghost use Rattle.handshake.specs.Verdict.{validatePeer};
+ghost use Rattle.handshake_read.specs.Parts.{featureAt};
+ghost use Rattle.handshake_read.specs.Answers.{featureOf, peerSpecOf, handshakeOf, handshakeVerdict, entryUrl, url};
+ghost use Rattle.exports.specs.Results.{numberOf, arrayAfter, valueNext, networkOf};
+ghost use Rattle.exports.specs.Entries.{entryArray, entryNumbers, handshakeNext, entryNext, featureNext, sizeOnly, urlNext};
+use handshake_read::EntryRead;
+use handshake_read::FeatureRead;
+use handshake_read::HandshakeRead;
+use handshake_read::PeerSpec;
+use handshake_read::SizeRead;
+use handshake_read::Url;
+use handshake_read::UrlRead;
+use handshake_read::VerdictRead;
+use types::Address;
+use vlq::Cursor;
+
+// A handshake from the first byte on. r is the timestamp; of the entry the agent's place and length, three version numbers, the name's place and
+// length, the address (0 for none, 4 or 6; its number, of IPv6 the high and the low half; its port), how many features there are and the place of
+// the first; and the next place.
+#[no_mangle]
+pub extern "C" fn haspeljo_parse(s: &[u8], r: &mut [u64; 15]) -> u8
+    ensures { λ n. ⌜ n ≡ numberOf (mapAnswer handshakeOf (handshake (now (s .entry)) 0)) ⌝ }
+    ensures { λ n. ⌜ now (r .exit) ≡ arrayAfter handshakeNext (mapAnswer handshakeOf (handshake (now (s .entry)) 0)) (now (r .entry)) ⌝ }
+{
+    match handshake_read::parse(s) {
+        HandshakeRead::Value(h, next) => {
+            *r = entry_numbers(h.timestamp, h.peer, next.at);
+            0
+        }
+        HandshakeRead::Refused(m) => m,
+    }
+}
+
+// r is how many bytes the handshake takes.
+#[no_mangle]
+pub extern "C" fn haspeljo_measure_size(s: &[u8], r: &mut [u64; 1]) -> u8
+    ensures { λ n. ⌜ n ≡ numberOf (andThen handshake (λ h. place) (now (s .entry)) 0) ⌝ }
+    ensures { λ n. ⌜ now (r .exit) ≡ arrayAfter sizeOnly (andThen handshake (λ h. place) (now (s .entry)) 0) (now (r .entry)) ⌝ }
+{
+    match handshake_read::measure_size(s) {
+        SizeRead::Size(n) => {
+            *r = [n as u64];
+            0
+        }
+        SizeRead::Refused(m) => m,
+    }
+}
+
+// An entry at a place. r is 0, and then as for a handshake.
+#[no_mangle]
+pub extern "C" fn haspeljo_parse_peer_entry(s: &[u8], at: usize, r: &mut [u64; 15]) -> u8
+    ensures { λ n. ⌜ n ≡ numberOf (mapAnswer peerSpecOf (entry (now (s .entry)) at)) ⌝ }
+    ensures { λ n. ⌜ now (r .exit) ≡ arrayAfter entryNext (mapAnswer peerSpecOf (entry (now (s .entry)) at)) (now (r .entry)) ⌝ }
+{
+    match handshake_read::parse_peer_entry(s, Cursor { at }) {
+        EntryRead::Value(peer, next) => {
+            *r = entry_numbers(0, peer, next.at);
+            0
+        }
+        EntryRead::Refused(m) => m,
+    }
+}
+
+// The feature at a place: r is its id, the place and length of its body, and the next place.
+#[no_mangle]
+pub extern "C" fn haspeljo_read_feature(s: &[u8], at: usize, r: &mut [u64; 4]) -> u8
+    ensures { λ n. ⌜ n ≡ numberOf (mapAnswer featureOf (feature (now (s .entry)) at)) ⌝ }
+    ensures { λ n. ⌜ now (r .exit) ≡ arrayAfter featureNext (mapAnswer featureOf (feature (now (s .entry)) at)) (now (r .entry)) ⌝ }
+{
+    match handshake_read::read_feature(s, Cursor { at }) {
+        FeatureRead::Value(f, next) => {
+            *r = [
+                f.id as u64,
+                f.body.start as u64,
+                f.body.len as u64,
+                next.at as u64,
+            ];
+            0
+        }
+        FeatureRead::Refused(m) => m,
+    }
+}
+
+// A feature of the entry at a place, by index.
+#[no_mangle]
+pub extern "C" fn haspeljo_feature_by_index(
+    s: &[u8],
+    at: usize,
+    index: usize,
+    r: &mut [u64; 4],
+) -> u8
+    ensures { λ n. ⌜ n ≡ numberOf (mapAnswer featureOf (featureAt index (now (s .entry)) at)) ⌝ }
+    ensures { λ n. ⌜ now (r .exit) ≡ arrayAfter featureNext (mapAnswer featureOf (featureAt index (now (s .entry)) at)) (now (r .entry)) ⌝ }
+{
+    match handshake_read::feature_by_index(s, Cursor { at }, index) {
+        FeatureRead::Value(f, next) => {
+            *r = [
+                f.id as u64,
+                f.body.start as u64,
+                f.body.len as u64,
+                next.at as u64,
+            ];
+            0
+        }
+        FeatureRead::Refused(m) => m,
+    }
+}
+
+// r is the verdict on the handshake, and where the handshake ends.
+#[no_mangle]
+pub extern "C" fn haspeljo_validate_peer(s: &[u8], mainnet: u8, r: &mut [u64; 2]) -> u8
+    ensures { λ n. ⌜ n ≡ numberOf (mapAnswer (handshakeVerdict (networkOf mainnet)) (handshake (now (s .entry)) 0)) ⌝ }
+    ensures { λ n. ⌜ now (r .exit) ≡ arrayAfter valueNext (mapAnswer (handshakeVerdict (networkOf mainnet)) (handshake (now (s .entry)) 0)) (now (r .entry)) ⌝ }
+{
+    match handshake_read::validate_peer(s, crate::network_of(mainnet)) {
+        VerdictRead::Value(v, next) => {
+            *r = [v as u64, next.at as u64];
+            0
+        }
+        VerdictRead::Refused(m) => m,
+    }
+}
+
+// r is the verdict on the entry at a place, and where the entry ends.
+#[no_mangle]
+pub extern "C" fn haspeljo_validate_entry(s: &[u8], at: usize, mainnet: u8, r: &mut [u64; 2]) -> u8
+    ensures { λ n. ⌜ n ≡ numberOf (mapAnswer (validatePeer (networkOf mainnet)) (entry (now (s .entry)) at)) ⌝ }
+    ensures { λ n. ⌜ now (r .exit) ≡ arrayAfter valueNext (mapAnswer (validatePeer (networkOf mainnet)) (entry (now (s .entry)) at)) (now (r .entry)) ⌝ }
+{
+    match handshake_read::validate_entry(s, Cursor { at }, crate::network_of(mainnet)) {
+        VerdictRead::Value(v, next) => {
+            *r = [v as u64, next.at as u64];
+            0
+        }
+        VerdictRead::Refused(m) => m,
+    }
+}
+
+// The REST API URL of the entry at a place: r is 1, its place and length; or three zeros if there is none; and where the entry ends.
+#[no_mangle]
+pub extern "C" fn haspeljo_rest_api_url(s: &[u8], at: usize, r: &mut [u64; 4]) -> u8
+    ensures { λ n. ⌜ n ≡ numberOf (mapAnswer entryUrl (entry (now (s .entry)) at)) ⌝ }
+    ensures { λ n. ⌜ now (r .exit) ≡ arrayAfter urlNext (mapAnswer entryUrl (entry (now (s .entry)) at)) (now (r .entry)) ⌝ }
+{
+    match handshake_read::rest_api_url(s, Cursor { at }) {
+        UrlRead::Value(u, next) => {
+            *r = url_numbers(u, next.at);
+            0
+        }
+        UrlRead::Refused(m) => m,
+    }
+}
+
+fn url_numbers(u: Url, next: usize) -> [u64; 4]
+    ensures { λ r. ⌜ r ≡ urlNext (url u) next ⌝ }
+{
+    match u {
+        Url::At(p) => [1, p.start as u64, p.len as u64, next as u64],
+        Url::None => [0, 0, 0, next as u64],
+    }
+}
+
+fn entry_numbers(timestamp: u64, p: PeerSpec, next: usize) -> [u64; 15]
+    ensures { λ r. ⌜ r ≡ entryNumbers timestamp p next ⌝ }
+{
+    let a = p.address;
+    match a {
+        Address::None => entry_array(timestamp, p, 0, 0, 0, 0, next),
+        Address::V4(ip, port) => entry_array(timestamp, p, 4, ip as u64, 0, port, next),
+        Address::V6(high, low, port) => entry_array(timestamp, p, 6, high, low, port, next),
+    }
+}
+
+fn entry_array(
+    timestamp: u64,
+    p: PeerSpec,
+    kind: u64,
+    high: u64,
+    low: u64,
+    port: u16,
+    next: usize,
+) -> [u64; 15]
+    ensures { λ r. ⌜ r ≡ entryArray timestamp p kind high low port next ⌝ }
+{
+    [
+        timestamp,
+        p.agent.start as u64,
+        p.agent.len as u64,
+        p.version.major as u64,
+        p.version.minor as u64,
+        p.version.patch as u64,
+        p.name.start as u64,
+        p.name.len as u64,
+        kind,
+        high,
+        low,
+        port as u64,
+        p.features.count as u64,
+        p.features.start as u64,
+        next as u64,
+    ]
+}
