@@ -4,7 +4,8 @@ ghost use Rattle.wire.specs.Reader.{andThen, place, mapAnswer};
 ghost use Rattle.handshake.specs.Entry.{feature, entry, handshake};
 ghost use Rattle.handshake.specs.Verdict.{validatePeer};
 ghost use Rattle.handshake_read.specs.Parts.{featureAt};
-ghost use Rattle.handshake_read.specs.Answers.{featureOf, peerSpecOf, handshakeOf, handshakeVerdict, entryUrl, url};
+ghost use Rattle.handshake_read.specs.Answers.{featureOf, peerSpecOf, handshakeOf};
+ghost use Rattle.handshake_verdict.specs.Answers.{handshakeVerdict, entryUrl, url};
 ghost use Rattle.exports.specs.Results.{numberOf, arrayAfter, valueNext, networkOf};
 ghost use Rattle.exports.specs.Entries.{entryArray, entryNumbers, handshakeNext, entryNext, featureNext, sizeOnly, urlNext};
 use handshake_read::EntryRead;
@@ -12,9 +13,9 @@ use handshake_read::FeatureRead;
 use handshake_read::HandshakeRead;
 use handshake_read::PeerSpec;
 use handshake_read::SizeRead;
-use handshake_read::Url;
-use handshake_read::UrlRead;
-use handshake_read::VerdictRead;
+use handshake_verdict::Url;
+use handshake_verdict::UrlRead;
+use handshake_verdict::VerdictRead;
 use types::Address;
 use vlq::Cursor;
 
@@ -116,7 +117,7 @@ pub extern "C" fn haspeljo_validate_peer(s: &[u8], mainnet: u8, r: &mut [u64; 2]
     ensures { λ n. ⌜ n ≡ numberOf (mapAnswer (handshakeVerdict (networkOf mainnet)) (handshake (now (s .entry)) 0)) ⌝ }
     ensures { λ n. ⌜ now (r .exit) ≡ arrayAfter valueNext (mapAnswer (handshakeVerdict (networkOf mainnet)) (handshake (now (s .entry)) 0)) (now (r .entry)) ⌝ }
 {
-    match handshake_read::validate_peer(s, crate::network_of(mainnet)) {
+    match handshake_verdict::validate_peer(s, crate::network_of(mainnet)) {
         VerdictRead::Value(v, next) => {
             *r = [v as u64, next.at as u64];
             0
@@ -131,7 +132,7 @@ pub extern "C" fn haspeljo_validate_entry(s: &[u8], at: usize, mainnet: u8, r: &
     ensures { λ n. ⌜ n ≡ numberOf (mapAnswer (validatePeer (networkOf mainnet)) (entry (now (s .entry)) at)) ⌝ }
     ensures { λ n. ⌜ now (r .exit) ≡ arrayAfter valueNext (mapAnswer (validatePeer (networkOf mainnet)) (entry (now (s .entry)) at)) (now (r .entry)) ⌝ }
 {
-    match handshake_read::validate_entry(s, Cursor { at }, crate::network_of(mainnet)) {
+    match handshake_verdict::validate_entry(s, Cursor { at }, crate::network_of(mainnet)) {
         VerdictRead::Value(v, next) => {
             *r = [v as u64, next.at as u64];
             0
@@ -146,7 +147,7 @@ pub extern "C" fn haspeljo_rest_api_url(s: &[u8], at: usize, r: &mut [u64; 4]) -
     ensures { λ n. ⌜ n ≡ numberOf (mapAnswer entryUrl (entry (now (s .entry)) at)) ⌝ }
     ensures { λ n. ⌜ now (r .exit) ≡ arrayAfter urlNext (mapAnswer entryUrl (entry (now (s .entry)) at)) (now (r .entry)) ⌝ }
 {
-    match handshake_read::rest_api_url(s, Cursor { at }) {
+    match handshake_verdict::rest_api_url(s, Cursor { at }) {
         UrlRead::Value(u, next) => {
             *r = url_numbers(u, next.at);
             0
@@ -164,7 +165,7 @@ fn url_numbers(u: Url, next: usize) -> [u64; 4]
     }
 }
 
-fn entry_numbers(timestamp: u64, p: PeerSpec, next: usize) -> [u64; 15]
+pub(crate) fn entry_numbers(timestamp: u64, p: PeerSpec, next: usize) -> [u64; 15]
     ensures { λ r. ⌜ r ≡ entryNumbers timestamp p next ⌝ }
 {
     let a = p.address;

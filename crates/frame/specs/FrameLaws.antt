@@ -94,6 +94,7 @@ pub record Places (s : List ℕ) (at : ℕ) (g : Segment) (end : ℕ) : Type 0 w
   pub start : g .start ≡ bodyStart at (length (g .bytes))
   pub ends : end ≡ g .start + length (g .bytes)
   pub within : end ≤ length s
+  pub stands : g .bytes ≡ take (length (g .bytes)) (drop (g .start) s)
 
 checked-places : (n : ℕ) (s : List ℕ) (at : ℕ) (c : Checked) (e : ℕ) → checked (suc n) s (at + 9) ≡ got c e → Places s at (c .body) e
 unfolding checked bodyStart
@@ -101,14 +102,14 @@ checked-places n s at c e q =
     let t : Taken (4 + suc n) _ (checked (suc n)) = field-taken 8 (4 + suc n) _ in
     let r = t .read s (at + 9) c e q in
     let l : length (take (suc n) (drop (at + 9 + 4) s)) ≡ suc n = length-part (suc n) s (at + 9 + 4) (omega arith) in
-    rw (r .1) (record { start = rw l (omega arith); ends = omega arith; within = omega arith })
+    rw (r .1) (record { start = rw l (omega arith); ends = omega arith; within = omega arith; stands = rw l })
 
 body-places : (n : ℕ) (s : List ℕ) (at : ℕ) {g : Segment} {e : ℕ} → at + 9 ≤ length s → body n s (at + 9) ≡ got g e → Places s at g e
 unfolding body bodyStart
 body-places zero s at {g} {e} h q =
     let eg : g ≡ record { start = at + 9; bytes = [] } = cc in
     let ee : e ≡ at + 9 = cc in
-    rw (eg, ee) (record { start = refl; ends = omega arith; within = h })
+    rw (eg, ee) (record { start = refl; ends = omega arith; within = h; stands = refl })
 body-places (suc n) s at {g} {e} h q =
     then-got {A = Checked} q (λ c d r q.
     let t = guard-got (sameBytes (c .check) (check (c .body .bytes))) 9 (c .body) s d q in

@@ -1,17 +1,12 @@
 -- What each answer of the code means, and what the code gives of a reading: its places and lengths, its numbers, and how many features there are.
-use Prim.Native.Nat.{ℕ, _+_, _≤_}
-use mathlib.Core.Bool.{cond}
+use Prim.Native.Nat.{ℕ}
 use mathlib.Core.List.{List}
-use mathlib.Core.Option.{Option, none, some}
-use lib.Dec.{eqb}
-use lib.ListN.{length, take, drop}
+use lib.ListN.{length}
 use Rattle.wire.specs.Reader.{Answer, got, refused, Segment, partOf}
 use Rattle.wire.specs.declared.Part.{Part}
 use Rattle.types.specs.declared.Version.{Version}
 use Rattle.types.specs.declared.Address.{Address}
-use Rattle.types.specs.declared.Network.{Network}
 use Rattle.handshake.specs.Entry.{EntryFeature, Entry, EntryHandshake}
-use Rattle.handshake.specs.Verdict.{firstFeature, validatePeer, restApiUrl}
 use Rattle.handshake_read.specs.Parts.{EntryHead, EntryFeatures}
 use Rattle.handshake_read.specs.declared.Head.{Head}
 use Rattle.handshake_read.specs.declared.Features.{Features}
@@ -30,22 +25,12 @@ use Rattle.handshake_read.specs.declared.EndRead.{EndRead}
 use Rattle.handshake_read.specs.declared.EndRead.the-variants as EndReads
 use Rattle.handshake_read.specs.declared.FeaturesRead.{FeaturesRead}
 use Rattle.handshake_read.specs.declared.FeaturesRead.the-variants as FeaturesReads
-use Rattle.handshake_read.specs.declared.Found.{Found}
-use Rattle.handshake_read.specs.declared.Found.the-variants as Founds
-use Rattle.handshake_read.specs.declared.FirstRead.{FirstRead}
-use Rattle.handshake_read.specs.declared.FirstRead.the-variants as FirstReads
 use Rattle.handshake_read.specs.declared.EntryRead.{EntryRead}
 use Rattle.handshake_read.specs.declared.EntryRead.the-variants as EntryReads
 use Rattle.handshake_read.specs.declared.HandshakeRead.{HandshakeRead}
 use Rattle.handshake_read.specs.declared.HandshakeRead.the-variants as HandshakeReads
 use Rattle.handshake_read.specs.declared.SizeRead.{SizeRead}
 use Rattle.handshake_read.specs.declared.SizeRead.the-variants as SizeReads
-use Rattle.handshake_read.specs.declared.VerdictRead.{VerdictRead}
-use Rattle.handshake_read.specs.declared.VerdictRead.the-variants as VerdictReads
-use Rattle.handshake_read.specs.declared.Url.{Url}
-use Rattle.handshake_read.specs.declared.Url.the-variants as Urls
-use Rattle.handshake_read.specs.declared.UrlRead.{UrlRead}
-use Rattle.handshake_read.specs.declared.UrlRead.the-variants as UrlReads
 
 -- ---- what is given of a reading
 
@@ -57,21 +42,6 @@ featuresOf l = record { count = length (l .features); start = l .first }
 
 abbrev pub featureOf : EntryFeature → Feature
 featureOf f = record { id = f .id; body = partOf (f .body) }
-
-abbrev pub featureIfAny : Option EntryFeature → Option Feature
-featureIfAny none = none
-featureIfAny (some f) = some (featureOf f)
-
-abbrev pub partIfAny : Option Segment → Option Part
-partIfAny none = none
-partIfAny (some g) = some (partOf g)
-
--- of features, the first with an id
-abbrev pub firstIn : ℕ → List EntryFeature → Option Feature
-firstIn id l = featureIfAny (firstFeature id l)
-
-abbrev pub firstOf : ℕ → EntryFeatures → Option Feature
-firstOf id l = firstIn id (l .features)
 
 -- of features, nothing but where they end
 abbrev pub ended : List EntryFeature → Unit {0}
@@ -89,12 +59,6 @@ peerSpecOf e =
 
 abbrev pub handshakeOf : EntryHandshake → Handshake
 handshakeOf h = record { timestamp = h .timestamp; peer = peerSpecOf (h .entry) }
-
-abbrev pub handshakeVerdict : Network → EntryHandshake → ℕ
-handshakeVerdict network h = validatePeer network (h .entry)
-
-abbrev pub entryUrl : Entry → Option Part
-entryUrl e = partIfAny (restApiUrl e)
 
 -- ---- what an answer means
 
@@ -122,19 +86,6 @@ abbrev pub featuresAnswer : FeaturesRead → Answer Features
 featuresAnswer (FeaturesReads.Value l c) = got l (c .at)
 featuresAnswer (FeaturesReads.Refused m) = refused m
 
-abbrev pub found : Found → Option Feature
-found (Founds.At f) = some f
-found Founds.None = none
-
--- what was found before, or else this feature if it has the id
-abbrev pub orThis : ℕ → Feature → Option Feature → Option Feature
-orThis id f (some g) = some g
-orThis id f none = cond (eqb (f .id) id) (some f) none
-
-abbrev pub firstAnswer : FirstRead → Answer (Option Feature)
-firstAnswer (FirstReads.Value f c) = got (found f) (c .at)
-firstAnswer (FirstReads.Refused m) = refused m
-
 abbrev pub entryAnswer : EntryRead → Answer PeerSpec
 entryAnswer (EntryReads.Value e c) = got e (c .at)
 entryAnswer (EntryReads.Refused m) = refused m
@@ -147,27 +98,3 @@ handshakeAnswer (HandshakeReads.Refused m) = refused m
 abbrev pub sizeAnswer : SizeRead → Answer ℕ
 sizeAnswer (SizeReads.Size n) = got n n
 sizeAnswer (SizeReads.Refused m) = refused m
-
-abbrev pub verdictAnswer : VerdictRead → Answer ℕ
-verdictAnswer (VerdictReads.Value v c) = got v (c .at)
-verdictAnswer (VerdictReads.Refused m) = refused m
-
-abbrev pub url : Url → Option Part
-url (Urls.At p) = some p
-url Urls.None = none
-
-abbrev pub urlAnswer : UrlRead → Answer (Option Part)
-urlAnswer (UrlReads.Value u c) = got (url u) (c .at)
-urlAnswer (UrlReads.Refused m) = refused m
-
--- ---- a feature by its places
-
--- with the bytes of its body in s
-abbrev pub foundIn : List ℕ → Found → Option EntryFeature
-foundIn s (Founds.At f) = some (record { id = f .id; body = record { start = f .body .start; bytes = take (f .body .len) (drop (f .body .start) s) } })
-foundIn s Founds.None = none
-
--- its body is among the first n bytes
-abbrev pub Inside : ℕ → Found → Type 0
-Inside n (Founds.At f) = f .body .start + f .body .len ≤ n
-Inside n Founds.None = Unit {0}

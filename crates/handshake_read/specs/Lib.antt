@@ -2,3 +2,4 @@ pub mod Parts
 pub mod PartsLaws
 pub mod Answers
 pub mod AnswerLaws
+pub mod FeaturesLaws

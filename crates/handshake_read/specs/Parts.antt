@@ -1,18 +1,12 @@
--- An entry in the two parts that the code reads one after the other, a feature by index, and the verdict on a version and a feature.
--- That the two parts are an entry, and the verdict that of `validatePeer`, is shown in `PartsLaws`.
+-- An entry in the two parts that the code reads one after the other, and a feature by index. That the two parts are an entry is shown in `PartsLaws`.
 use Prim.Native.Nat.{ℕ, zero, suc, _+_}
-use mathlib.Core.Bool.{cond}
 use mathlib.Core.List.{List, [], _∷_}
-use mathlib.Core.Option.{Option}
 use lib.ListN.{length}
 use Rattle.wire.specs.Reader.{Answer, got, refused, Reader, bind, pure, andThen, place, byte, Segment, listOf}
 use Rattle.vlq.specs.ShortString.{shortString}
 use Rattle.types.specs.declared.Version.{Version}
 use Rattle.types.specs.declared.Address.{Address}
-use Rattle.types.specs.declared.Network.{Network}
-use Rattle.types.specs.Order.{below, eip37Min}
 use Rattle.handshake.specs.Entry.{version, addressIf, EntryFeature, feature, entry}
-use Rattle.handshake.specs.Verdict.{otherMagic}
 
 -- an address flag byte, an address if the flag isn't 0
 unfoldable pub declaredAddress : Reader Address
@@ -55,7 +49,3 @@ nth (suc index) (f ∷ fs) = nth index fs
 -- a feature of the entry at a place, once the entry has been read without refusal
 unfoldable pub featureAt : ℕ → Reader EntryFeature
 featureAt index s at = bind (entry s at) (λ e next. nth index (e .features))
-
--- `validatePeer` from the version and the first feature 3
-unfoldable pub verdictOf : Network → Version → Option EntryFeature → ℕ
-verdictOf network v first = cond (below v eip37Min) 1 (cond (otherMagic network first) 2 0)

@@ -1,11 +1,11 @@
--- `handshake_read::skip_features` meets its contract. The loop's invariant and what follows from it stand in `FeaturesLoop`.
+-- `handshake_read::skip_features` meets its contract. The loop's invariant and what follows from it stand in `FeaturesLaws`.
 use Prim.Native.Nat.{_-_}
 use mathlib.Core.Path.{refl, sym, ap, _∙_}
 use native.Mathlib.Omega.{arith}
 use borrow.Author.Needs.{needs}
 use Rattle.wire.specs.ReaderLaws.{map-got, map-refused}
 use Rattle.handshake_read.specs.Answers.{featureOf, featureAnswer, ended}
-use Rattle.handshake_read.proofs.FeaturesLoop.{FeaturesSoFar, features-start, features-again, features-refused, features-end}
+use Rattle.handshake_read.specs.FeaturesLaws.{FeaturesSoFar, features-start, features-again, features-refused, features-end}
 use Rattle.handshake_read.proofs.skip_features.Statement.{statement}
 use Rattle.handshake_read.proofs.skip_features.Tie as tie
 

@@ -1,6 +1,6 @@
 -- `exports::handshakes::url_numbers` meets its contract, case by case.
 use borrow.Author.Needs.{needs}
-use Rattle.handshake_read.specs.Answers.{url}
+use Rattle.handshake_verdict.specs.Answers.{url}
 use Rattle.exports.specs.Entries.{urlNext}
 use Rattle.exports.proofs.handshakes.url_numbers.Statement.{statement}
 use Rattle.exports.proofs.handshakes.url_numbers.Tie as tie

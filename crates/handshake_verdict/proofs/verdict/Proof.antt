@@ -1,14 +1,14 @@
--- `handshake_read::verdict` meets its contract: by the version, and the bytes of the feature that was found.
+-- `handshake_verdict::verdict` meets its contract: by the version, and the bytes of the feature that was found.
 use mathlib.Core.Path.{ap, sym, _∙_}
 use lib.ListN.{take, drop}
 use Rattle.wire.specs.Bytes.{sameBytes}
 use native.Mathlib.Omega.{arith}
 use denote.Ref.{now}
 use mathlib.Core.Bool.{true, false}
-use Rattle.handshake_read.proofs.VerdictLaws.{below-min, verdict-low, verdict-none, verdict-short, verdict-magic}
+use Rattle.handshake_verdict.proofs.VerdictLaws.{below-min, verdict-low, verdict-none, verdict-short, verdict-magic}
 use borrow.Author.Needs.{needs}
-use Rattle.handshake_read.proofs.verdict.Statement.{statement}
-use Rattle.handshake_read.proofs.verdict.Tie as tie
+use Rattle.handshake_verdict.proofs.verdict.Statement.{statement}
+use Rattle.handshake_verdict.proofs.verdict.Tie as tie
 
 returns : tie.Need-returns
 returns c = let a = c .before .before .before .before .args in verdict-low (a .network) (a .version) _ (below-min (a .version) (c .before .lt .ensures) (c .before .before .eip37-min .ensures) (c .if1 .taken))

@@ -1,14 +1,16 @@
--- `handshake_read::first_feature` meets its contract. The loop's invariant and what follows from it stand in `FeaturesLoop`.
+-- `handshake_verdict::first_feature` meets its contract. The loop's invariant and what follows from it stand in `FeaturesLaws` of handshake_read.
 use Rattle.handshake.specs.Verdict.{firstFeature}
 use Prim.Native.Nat.{_-_}
 use mathlib.Core.Path.{sym, ap, _∙_}
 use native.Mathlib.Omega.{arith}
 use borrow.Author.Needs.{needs}
 use Rattle.wire.specs.ReaderLaws.{map-got, map-refused}
-use Rattle.handshake_read.specs.Answers.{featureOf, featureAnswer, firstIn, found}
-use Rattle.handshake_read.proofs.FeaturesLoop.{FeaturesSoFar, features-start, features-again, features-refused, features-end, first-more}
-use Rattle.handshake_read.proofs.first_feature.Statement.{statement}
-use Rattle.handshake_read.proofs.first_feature.Tie as tie
+use Rattle.handshake_read.specs.Answers.{featureOf, featureAnswer}
+use Rattle.handshake_verdict.specs.Answers.{firstIn, found}
+use Rattle.handshake_read.specs.FeaturesLaws.{FeaturesSoFar, features-start, features-again, features-refused, features-end}
+use Rattle.handshake_verdict.proofs.FoundLaws.{first-more}
+use Rattle.handshake_verdict.proofs.first_feature.Statement.{statement}
+use Rattle.handshake_verdict.proofs.first_feature.Tie as tie
 
 abbrev Inv-loop : tie.InvT-loop
 Inv-loop s n id d₀ first₀ i₀ d first i = FeaturesSoFar (firstIn id) s n (d₀ .at) (found first) (d .at) i

@@ -1,13 +1,13 @@
--- `handshake_read::validate_peer` meets its contract: the entry after the timestamp that was read.
+-- `handshake_verdict::validate_peer` meets its contract: the entry after the timestamp that was read.
 use Rattle.wire.specs.ReaderLaws.{map-refusal}
 use mathlib.Core.Path.{sym, ap, _∙_}
 use Rattle.vlq.specs.Answers.{vlqAnswer}
 use denote.Ref.{now}
 use Rattle.handshake.specs.Entry.{handshake}
-use Rattle.handshake_read.proofs.VerdictLaws.{handshake-verdict}
+use Rattle.handshake_verdict.proofs.VerdictLaws.{handshake-verdict}
 use borrow.Author.Needs.{needs}
-use Rattle.handshake_read.proofs.validate_peer.Statement.{statement}
-use Rattle.handshake_read.proofs.validate_peer.Tie as tie
+use Rattle.handshake_verdict.proofs.validate_peer.Statement.{statement}
+use Rattle.handshake_verdict.proofs.validate_peer.Tie as tie
 
 returns : tie.Need-returns
 returns c =

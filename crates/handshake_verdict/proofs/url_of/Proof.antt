@@ -1,4 +1,4 @@
--- `handshake_read::url_of` meets its contract: by the short string that was read within the body.
+-- `handshake_verdict::url_of` meets its contract: by the short string that was read within the body.
 use mathlib.Core.Path.{sym, ap, _∙_}
 use native.Mathlib.Omega.{arith}
 use denote.Ref.{now}
@@ -7,10 +7,10 @@ use Rattle.vlq.specs.Answers.{partAnswer}
 use Rattle.wire.specs.Reader.{partOf}
 use Rattle.wire.specs.declared.Part.{Part}
 use Rattle.handshake.specs.Verdict.{urlOf}
-use Rattle.handshake_read.proofs.UrlLaws.{url-start, url-found, url-none}
+use Rattle.handshake_verdict.proofs.UrlLaws.{url-start, url-found, url-none}
 use borrow.Author.Needs.{needs}
-use Rattle.handshake_read.proofs.url_of.Statement.{statement}
-use Rattle.handshake_read.proofs.url_of.Tie as tie
+use Rattle.handshake_verdict.proofs.url_of.Statement.{statement}
+use Rattle.handshake_verdict.proofs.url_of.Tie as tie
 
 add-end : tie.Need-add-end
 add-end c =

@@ -1,13 +1,13 @@
--- `handshake_read::read_first` meets its contract: the features after the count byte that was read.
+-- `handshake_verdict::read_first` meets its contract: the features after the count byte that was read.
 use Rattle.wire.specs.ReaderLaws.{map-refusal}
 use mathlib.Core.Path.{sym, ap, _∙_}
 use Rattle.vlq.specs.Answers.{byteAnswer}
 use denote.Ref.{now}
 use Rattle.handshake_read.specs.Parts.{features}
-use Rattle.handshake_read.proofs.FoundLaws.{features-first}
+use Rattle.handshake_verdict.proofs.FoundLaws.{features-first}
 use borrow.Author.Needs.{needs}
-use Rattle.handshake_read.proofs.read_first.Statement.{statement}
-use Rattle.handshake_read.proofs.read_first.Tie as tie
+use Rattle.handshake_verdict.proofs.read_first.Statement.{statement}
+use Rattle.handshake_verdict.proofs.read_first.Tie as tie
 
 returns : tie.Need-returns
 returns c =

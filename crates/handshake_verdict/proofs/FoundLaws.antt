@@ -1,18 +1,21 @@
 -- What was found of the features, with its bytes, is the definition's first feature with the id.
 use Prim.Native.Nat.{ℕ, _-_}
 use native.Mathlib.Omega.{arith}
-use mathlib.Core.List.{List}
+use mathlib.Core.Bool.{Bool, true, false, cond}
+use mathlib.Core.List.{List, [], _∷_, _++_}
 use mathlib.Core.Option.{Option, none, some}
 use mathlib.Core.Path.{_≡_, refl, ap}
+use lib.Dec.{eqb}
 use lib.ListN.{length}
 use Rattle.wire.specs.Reader.{Answer, got, refused, bind, mapAnswer, listOf, byte}
 use Rattle.handshake.specs.Entry.{EntryFeature, feature}
 use Rattle.handshake.specs.Verdict.{firstFeature}
-use Rattle.handshake_read.specs.declared.Found.{Found}
-use Rattle.handshake_read.specs.declared.Found.the-variants.{At, None}
+use Rattle.handshake_verdict.specs.declared.Found.{Found}
+use Rattle.handshake_verdict.specs.declared.Found.the-variants.{At, None}
 use Rattle.handshake_read.specs.Parts.{EntryFeatures, features}
 use Rattle.handshake_read.specs.PartsLaws.{first-stands, features-listed}
-use Rattle.handshake_read.specs.Answers.{featureOf, featureIfAny, firstIn, firstOf, found, foundIn, Inside}
+use Rattle.handshake_read.specs.Answers.{featureOf}
+use Rattle.handshake_verdict.specs.Answers.{featureIfAny, firstIn, firstOf, found, orThis, foundIn, Inside}
 
 -- the first feature o with its bytes in s
 pub record FoundFirst (s : List ℕ) (first : Found) (o : Option EntryFeature) : Type 0 where
@@ -47,3 +50,18 @@ features-first id s at {n} {m} q = rw q (go (listOf n (λ before. feature) s m))
     go : (r : Answer (List EntryFeature)) → bind r (λ l e. got (firstIn id l) e) ≡ bind (bind r (λ l e. got (listing l) e)) (λ l e. got (firstOf id l) e)
     go (got l e) = refl
     go (refused k) = refl
+
+-- the first with an id, after one more feature
+pub first-more : (id : ℕ) (l : List EntryFeature) (f : EntryFeature) → firstIn id (l ++ (f ∷ [])) ≡ orThis id (featureOf f) (firstIn id l)
+unfolding firstFeature
+first-more id [] f = go (eqb (f .id) id)
+  where
+    go : (b : Bool) → featureIfAny (cond b (some f) none) ≡ cond b (some (featureOf f)) none
+    go true = refl
+    go false = refl
+first-more id (g ∷ l) f = go (eqb (g .id) id) (first-more id l f)
+  where
+    go : (b : Bool) → featureIfAny (firstFeature id (l ++ (f ∷ []))) ≡ orThis id (featureOf f) (featureIfAny (firstFeature id l))
+        → featureIfAny (cond b (some g) (firstFeature id (l ++ (f ∷ [])))) ≡ orThis id (featureOf f) (featureIfAny (cond b (some g) (firstFeature id l)))
+    go true h = refl
+    go false h = h

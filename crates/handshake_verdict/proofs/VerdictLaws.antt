@@ -17,14 +17,16 @@ use Rattle.types.specs.Magic.{magicOf}
 use Rattle.types.specs.Order.{below, eip37Min}
 use Rattle.handshake.specs.Entry.{EntryFeature, Entry, entry, EntryHandshake, handshake}
 use Rattle.handshake.specs.Verdict.{firstFeature, otherMagic, validatePeer}
 use Rattle.handshake_read.specs.declared.Feature.{Feature}
 use Rattle.handshake_read.specs.declared.Head.{Head}
-use Rattle.handshake_read.specs.declared.Found.{Found}
-use Rattle.handshake_read.specs.declared.Found.the-variants.{At}
-use Rattle.handshake_read.specs.Parts.{EntryHead, EntryFeatures, features, verdictOf}
+use Rattle.handshake_verdict.specs.declared.Found.{Found}
+use Rattle.handshake_verdict.specs.declared.Found.the-variants.{At}
+use Rattle.handshake_read.specs.Parts.{EntryHead, EntryFeatures, features}
+use Rattle.handshake_verdict.specs.Answers.{verdictOf}
 use Rattle.handshake_read.specs.PartsLaws.{entryOf}
-use Rattle.handshake_read.specs.Answers.{headOf, handshakeVerdict, foundIn, Inside}
-use Rattle.handshake_read.proofs.FoundLaws.{FoundFirst}
+use Rattle.handshake_read.specs.Answers.{headOf}
+use Rattle.handshake_verdict.specs.Answers.{handshakeVerdict, foundIn, Inside}
+use Rattle.handshake_verdict.proofs.FoundLaws.{FoundFirst}
 
 pub below-min : (v : Version) {w : Version} {r b : Bool} → r ≡ below v w → w ≡ eip37Min → r ≡ b → below v eip37Min ≡ b
 below-min v e f g = ap (below v) (sym f) ∙ sym e ∙ g

@@ -1,10 +1,10 @@
--- `handshake_read::first_of` meets its contract: by what was found before, and the test of the id.
+-- `handshake_verdict::first_of` meets its contract: by what was found before, and the test of the id.
 use mathlib.Core.Path.{ap}
 use borrow.Author.Tests.{eq-eqb, ne-eqb}
-use Rattle.handshake_read.specs.Answers.{found}
+use Rattle.handshake_verdict.specs.Answers.{found}
 use borrow.Author.Needs.{needs}
-use Rattle.handshake_read.proofs.first_of.Statement.{statement}
-use Rattle.handshake_read.proofs.first_of.Tie as tie
+use Rattle.handshake_verdict.proofs.first_of.Statement.{statement}
+use Rattle.handshake_verdict.proofs.first_of.Tie as tie
 
 returns : tie.Need-returns
 returns c = let e = ap found (c .before .first .given .1) in rw e

@@ -1,14 +1,15 @@
--- `handshake_read::rest_api_url` meets its contract: what was found is the definition's first feature 4, with its bytes.
+-- `handshake_verdict::rest_api_url` meets its contract: what was found is the definition's first feature 4, with its bytes.
 use mathlib.Core.Path.{sym, ap, _∙_}
 use Rattle.wire.specs.ReaderLaws.{map-got, map-refused, map-value, map-refusal}
 use denote.Ref.{now}
 use Rattle.handshake_read.specs.PartsLaws.{entry-parts}
-use Rattle.handshake_read.specs.Answers.{headOf, headAnswer, firstOf, firstAnswer}
-use Rattle.handshake_read.proofs.FoundLaws.{found-first}
-use Rattle.handshake_read.proofs.UrlLaws.{url-read}
+use Rattle.handshake_read.specs.Answers.{headOf, headAnswer}
+use Rattle.handshake_verdict.specs.Answers.{firstOf, firstAnswer}
+use Rattle.handshake_verdict.proofs.FoundLaws.{found-first}
+use Rattle.handshake_verdict.proofs.UrlLaws.{url-read}
 use borrow.Author.Needs.{needs}
-use Rattle.handshake_read.proofs.rest_api_url.Statement.{statement}
-use Rattle.handshake_read.proofs.rest_api_url.Tie as tie
+use Rattle.handshake_verdict.proofs.rest_api_url.Statement.{statement}
+use Rattle.handshake_verdict.proofs.rest_api_url.Tie as tie
 
 url-of-requires : tie.Need-url-of-requires
 url-of-requires c κs =

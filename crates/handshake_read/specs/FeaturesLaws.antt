@@ -1,15 +1,10 @@
 -- The loops over features take the turns of `listOf` one by one and keep what they say of the features so far.
 use Prim.Native.Nat.{ℕ, _+_, _-_, _≤_, _<_}
-use mathlib.Core.Bool.{Bool, true, false, cond}
 use mathlib.Core.List.{List, [], _∷_, _++_}
-use mathlib.Core.Option.{none, some}
 use mathlib.Core.Path.{_≡_, refl, ap, sym, _∙_}
-use lib.Dec.{eqb}
 use Rattle.wire.specs.Reader.{got, refused, mapAnswer, listOf}
 use Rattle.wire.specs.ReaderLaws.{FoldSoFar, fold-start, fold-turn, fold-refused, fold-end, map-value, map-refusal}
 use Rattle.handshake.specs.Entry.{EntryFeature, feature}
-use Rattle.handshake.specs.Verdict.{firstFeature}
-use Rattle.handshake_read.specs.Answers.{featureOf, featureIfAny, firstIn, orThis}
 use Rattle.handshake_read.specs.PartsLaws.{turn}
 
 -- i of the n features are read; b is what is seen of them
@@ -37,18 +32,3 @@ module _ {B : Type 0} {see : List EntryFeature → B} {s : List ℕ} {n at₀ : 
   pub features-end : n ≤ i → got b at ≡ mapAnswer see (listOf n (λ before. feature) s at₀)
   unfolding listOf
   features-end h = rw (← fold-end (inv .taken) h) (sym (map-value see (inv .list) at ∙ ap (λ (b : B). got b at) (inv .seen)))
-
--- the first with an id, after one more feature
-pub first-more : (id : ℕ) (l : List EntryFeature) (f : EntryFeature) → firstIn id (l ++ (f ∷ [])) ≡ orThis id (featureOf f) (firstIn id l)
-unfolding firstFeature
-first-more id [] f = go (eqb (f .id) id)
-  where
-    go : (b : Bool) → featureIfAny (cond b (some f) none) ≡ cond b (some (featureOf f)) none
-    go true = refl
-    go false = refl
-first-more id (g ∷ l) f = go (eqb (g .id) id) (first-more id l f)
-  where
-    go : (b : Bool) → featureIfAny (firstFeature id (l ++ (f ∷ []))) ≡ orThis id (featureOf f) (featureIfAny (firstFeature id l))
-        → featureIfAny (cond b (some g) (firstFeature id (l ++ (f ∷ [])))) ≡ orThis id (featureOf f) (featureIfAny (cond b (some g) (firstFeature id l)))
-    go true h = refl
-    go false h = h

@@ -13,13 +13,13 @@ use Rattle.utf8.specs.Utf8.{utf8}
 use Rattle.vlq.specs.ShortString.{string, shortString}
 use Rattle.handshake.specs.Entry.{entry}
 use Rattle.handshake.specs.Verdict.{firstFeature, stringFrom, urlOf, restApiUrl}
 use Rattle.handshake_read.specs.declared.Feature.{Feature}
-use Rattle.handshake_read.specs.declared.Found.{Found}
-use Rattle.handshake_read.specs.declared.Found.the-variants.{At}
+use Rattle.handshake_verdict.specs.declared.Found.{Found}
+use Rattle.handshake_verdict.specs.declared.Found.the-variants.{At}
 use Rattle.handshake_read.specs.Parts.{EntryHead, EntryFeatures, features}
 use Rattle.handshake_read.specs.PartsLaws.{bind-got, part-at, entryOf}
-use Rattle.handshake_read.specs.Answers.{partIfAny, entryUrl, foundIn, Inside}
-use Rattle.handshake_read.proofs.FoundLaws.{FoundFirst}
+use Rattle.handshake_verdict.specs.Answers.{partIfAny, entryUrl, foundIn, Inside}
+use Rattle.handshake_verdict.proofs.FoundLaws.{FoundFirst}
 
 -- a short string starts within the bytes
 pub short-string-inside : (s : List ℕ) (at : ℕ) {g : Segment} {next : ℕ} → shortString s at ≡ got g next → g .start ≤ length s

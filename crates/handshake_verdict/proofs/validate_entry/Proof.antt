@@ -1,14 +1,15 @@
--- `handshake_read::validate_entry` meets its contract: what was found is the definition's first feature 3, with its bytes.
+-- `handshake_verdict::validate_entry` meets its contract: what was found is the definition's first feature 3, with its bytes.
 use mathlib.Core.Path.{sym, ap, _∙_}
 use Rattle.wire.specs.ReaderLaws.{map-got, map-refused, map-value, map-refusal}
 use denote.Ref.{now}
 use Rattle.handshake_read.specs.PartsLaws.{entry-parts}
-use Rattle.handshake_read.specs.Answers.{headOf, headAnswer, firstOf, firstAnswer}
-use Rattle.handshake_read.proofs.FoundLaws.{found-first}
-use Rattle.handshake_read.proofs.VerdictLaws.{verdict-read}
+use Rattle.handshake_read.specs.Answers.{headOf, headAnswer}
+use Rattle.handshake_verdict.specs.Answers.{firstOf, firstAnswer}
+use Rattle.handshake_verdict.proofs.FoundLaws.{found-first}
+use Rattle.handshake_verdict.proofs.VerdictLaws.{verdict-read}
 use borrow.Author.Needs.{needs}
-use Rattle.handshake_read.proofs.validate_entry.Statement.{statement}
-use Rattle.handshake_read.proofs.validate_entry.Tie as tie
+use Rattle.handshake_verdict.proofs.validate_entry.Statement.{statement}
+use Rattle.handshake_verdict.proofs.validate_entry.Tie as tie
 
 verdict-requires : tie.Need-verdict-requires
 verdict-requires c κs =
