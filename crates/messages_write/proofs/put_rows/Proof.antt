@@ -1,0 +1,88 @@
+-- `messages_write::put_rows` meets its contract: the rows before i were stored.
+use Prim.Native.Nat.{_+_, _-_}
+use native.Mathlib.Omega.{arith}
+use denote.Ref.{now}
+use lib.ListN.{length, getD}
+use borrow.Author.Needs.{needs}
+use Rattle.messages_write.proofs.IdsLoop.{Putting, putting-start, putting-inside, putting-room, putting-turn, putting-end}
+use Rattle.messages_write.proofs.put_rows.Statement.{statement}
+use Rattle.messages_write.proofs.put_rows.Tie as tie
+
+abbrev Inv-loop : tie.InvT-loop
+Inv-loop out₀ at ids buffer o₀ i₀ out o i = Putting out₀ at ids buffer out o i
+
+abbrev μ-loop : tie.MeasureT-loop
+μ-loop out₀ at ids buffer o₀ i₀ out o i = length ids - i
+
+loop-holds : tie.Need-loop-holds Inv-loop μ-loop
+loop-holds c =
+    let s = c .before .before .before in
+    putting-start (now (s .args .out)) (s .args .at) (now (s .args .ids)) (now (s .args .buffer)) (s .pre .0) (s .pre .1)
+
+mul-from : tie.Need-mul-from Inv-loop μ-loop
+mul-from c = search needs
+
+shared-slice-read-from : tie.Need-shared-slice-read-from Inv-loop μ-loop
+shared-slice-read-from c = search needs
+
+cast-from : tie.Need-cast-from Inv-loop μ-loop
+cast-from c = omega (arith, c .shared-slice-known3 .given (c .before .before .loop .i))
+
+add-write-part : tie.Need-add-write-part Inv-loop μ-loop
+add-write-part c = omega (arith, c .before .shared-slice-known3 .given (c .before .before .before .loop .i))
+
+sub-write-part : tie.Need-sub-write-part Inv-loop μ-loop
+sub-write-part c = search needs
+
+part-write-part-start : tie.Need-part-write-part-start Inv-loop μ-loop
+part-write-part-start c = search needs
+
+part-write-part-end : tie.Need-part-write-part-end Inv-loop μ-loop
+part-write-part-end c = omega (arith, putting-inside (c .before .before .before .loop .inv) (omega arith))
+
+write-part-requires : tie.Need-write-part-requires Inv-loop μ-loop
+write-part-requires c κs = search needs
+
+add-o : tie.Need-add-o Inv-loop μ-loop
+add-o c = omega (arith, putting-room (c .before .before .before .before .before .before .before .loop .inv) (omega arith))
+
+add-i : tie.Need-add-i Inv-loop μ-loop
+add-i c = search needs
+
+loop-less : tie.Need-loop-less Inv-loop μ-loop
+loop-less c = omega arith
+
+loop-again : tie.Need-loop-again Inv-loop μ-loop
+loop-again c =
+    let l = c .before .before .before .before .before .before .before .loop in
+    let w = c .before .before .write-part .ensures in
+    let from = getD (c .before .before .before .before .before .before .before .before .before .before .before .args .ids .now) (l .i) 0 in
+    putting-turn (l .inv) (omega arith) (from + 32 - from) (omega arith) (w .0) (w .1)
+
+same-length : tie.Need-same-length Inv-loop μ-loop
+same-length c = c .before .loop .inv .writing .long
+
+returns : tie.Need-returns Inv-loop μ-loop
+returns c = putting-end (c .before .loop .inv) (omega arith)
+
+pub put-rows-spec : {M : Type 1} → statement M
+put-rows-spec =
+    tie.close
+    (tie.spec
+    Inv-loop
+    μ-loop
+    loop-holds
+    mul-from
+    shared-slice-read-from
+    cast-from
+    add-write-part
+    sub-write-part
+    part-write-part-start
+    part-write-part-end
+    write-part-requires
+    add-o
+    add-i
+    loop-less
+    loop-again
+    same-length
+    returns)
