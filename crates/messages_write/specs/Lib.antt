@@ -1,3 +1,4 @@
 pub mod Asked
 pub mod RowsLaws
+pub mod PuttingLaws
 pub mod MessageWriteLaws

@@ -4,20 +4,23 @@ use native.Mathlib.Omega.{arith}
 use denote.Ref.{now}
 use lib.ListN.{length, getD}
 use borrow.Author.Needs.{needs}
-use Rattle.messages_write.proofs.IdsLoop.{Putting, putting-start, putting-inside, putting-room, putting-turn, putting-end}
+use Rattle.messages.specs.Writes.{idsOf}
+use Rattle.messages_write.specs.PuttingLaws.{putting-start, putting-end}
+use Rattle.messages_write.proofs.IdsLoop.{PuttingIds, id-inside, id-room, id-stored}
 use Rattle.messages_write.proofs.put_rows.Statement.{statement}
 use Rattle.messages_write.proofs.put_rows.Tie as tie
 
 abbrev Inv-loop : tie.InvT-loop
-Inv-loop out₀ at ids buffer o₀ i₀ out o i = Putting out₀ at ids buffer out o i
+Inv-loop out₀ at ids buffer o₀ i₀ out o i = PuttingIds out₀ at ids buffer out o i
 
 abbrev μ-loop : tie.MeasureT-loop
 μ-loop out₀ at ids buffer o₀ i₀ out o i = length ids - i
 
 loop-holds : tie.Need-loop-holds Inv-loop μ-loop
+unfolding idsOf
 loop-holds c =
     let s = c .before .before .before in
-    putting-start (now (s .args .out)) (s .args .at) (now (s .args .ids)) (now (s .args .buffer)) (s .pre .0) (s .pre .1)
+    putting-start _ _ _ _ _ _ _ (s .pre .0) (s .pre .1)
 
 mul-from : tie.Need-mul-from Inv-loop μ-loop
 mul-from c = search needs
@@ -38,13 +41,17 @@ part-write-part-start : tie.Need-part-write-part-start Inv-loop μ-loop
 part-write-part-start c = search needs
 
 part-write-part-end : tie.Need-part-write-part-end Inv-loop μ-loop
-part-write-part-end c = omega (arith, putting-inside (c .before .before .before .loop .inv) (omega arith))
+part-write-part-end c =
+    let a = c .before .before .before .before .before .before .before .args in
+    omega (arith, id-inside (now (a .ids)) (now (a .buffer)) (c .before .before .before .loop .inv) (omega arith))
 
 write-part-requires : tie.Need-write-part-requires Inv-loop μ-loop
 write-part-requires c κs = search needs
 
 add-o : tie.Need-add-o Inv-loop μ-loop
-add-o c = omega (arith, putting-room (c .before .before .before .before .before .before .before .loop .inv) (omega arith))
+add-o c =
+    let a = c .before .before .before .before .before .before .before .before .before .before .before .args in
+    omega (arith, id-room (now (a .ids)) (now (a .buffer)) (c .before .before .before .before .before .before .before .loop .inv) (omega arith))
 
 add-i : tie.Need-add-i Inv-loop μ-loop
 add-i c = search needs
@@ -56,13 +63,15 @@ loop-again : tie.Need-loop-again Inv-loop μ-loop
 loop-again c =
     let l = c .before .before .before .before .before .before .before .loop in
     let w = c .before .before .write-part .ensures in
-    let from = getD (c .before .before .before .before .before .before .before .before .before .before .before .args .ids .now) (l .i) 0 in
-    putting-turn (l .inv) (omega arith) (from + 32 - from) (omega arith) (w .0) (w .1)
+    let a = c .before .before .before .before .before .before .before .before .before .before .before .args in
+    let from = getD (now (a .ids)) (l .i) 0 in
+    id-stored (now (a .ids)) (now (a .buffer)) (l .inv) (omega arith) (from + 32 - from) (omega arith) (w .0) (w .1)
 
 same-length : tie.Need-same-length Inv-loop μ-loop
 same-length c = c .before .loop .inv .writing .long
 
 returns : tie.Need-returns Inv-loop μ-loop
+unfolding idsOf
 returns c = putting-end (c .before .loop .inv) (omega arith)
 
 pub put-rows-spec : {M : Type 1} → statement M

@@ -1,0 +1,38 @@
+-- `entry_ask::ask_row` meets its contract: each answer is the definition's, by the tests that led to it.
+use native.Mathlib.Omega.{arith}
+use mathlib.Core.Path.{sym, ap, _∙_}
+use denote.Ref.{now}
+use borrow.Author.Needs.{needs}
+use borrow.Author.Tests.{not-true, not-false}
+use Rattle.entry_ask.specs.Asked.{lent, numbersWhole, partsSaid}
+use Rattle.entry_ask.specs.AskedLaws.{row-outside, row-broken, row-parts}
+use Rattle.entry_ask.proofs.ask_row.Statement.{statement}
+use Rattle.entry_ask.proofs.ask_row.Tie as tie
+
+returns : tie.Need-returns
+returns c = let a = c .before .before .before .before .args in sym (row-outside (lent (now (a .entries)) (now (a .features)) (now (a .buffer))) (a .k) (c .if1 .taken))
+
+entry-at-requires : tie.Need-entry-at-requires
+entry-at-requires c κs = omega arith
+
+returns-2 : tie.Need-returns-2
+returns-2 c =
+    let a = c .before .before .before .before .before .before .before .args in
+    sym (row-broken (lent (now (a .entries)) (now (a .features)) (now (a .buffer))) (a .k) (c .before .before .before .if1 .left) (ap (numbersWhole (now (a .features))) (sym (c .before .before .entry-at .ensures)) ∙ sym (c .before .row-whole .ensures) ∙ not-true _ (c .if2 .taken)))
+
+returns-3 : tie.Need-returns-3
+returns-3 c =
+    let a = c .before .before .before .before .before .before .before .before .args in
+    let whole = ap (numbersWhole (now (a .features))) (sym (c .before .before .before .entry-at .ensures)) ∙ sym (c .before .before .row-whole .ensures) ∙ not-false _ (c .before .if2 .left) in
+    c .ask-parts .ensures ∙ ap (partsSaid (now (a .features)) (now (a .buffer))) (c .before .before .before .entry-at .ensures) ∙ sym (row-parts (lent (now (a .entries)) (now (a .features)) (now (a .buffer))) (a .k) (c .before .before .before .before .if1 .left) whole)
+
+pub ask-row-spec : {M : Type 1} → statement M
+ask-row-spec =
+    tie.close
+    (tie.spec
+    returns
+    entry-at-requires
+    (λ c κs. search needs)
+    returns-2
+    (λ c κs. search needs)
+    returns-3)

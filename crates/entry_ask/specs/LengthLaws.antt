@@ -1,0 +1,114 @@
+-- How many bytes an entry, its address and its features are written as; and the bytes of the buffer that a row names.
+use Prim.Native.Nat.{ℕ, zero, suc, _+_, _-_, _≤_, _<_, min}
+use native.Mathlib.Omega.{arith}
+use mathlib.Core.Bool.{Bool, true, false, cond}
+use mathlib.Core.List.{List, [], _∷_, _++_, map, flatMap, append-assoc}
+use mathlib.Core.Logic.{_⊎_, inl, inr, ⊎-elim}
+use mathlib.Core.Path.{_≡_, refl, sym, ap, _∙_}
+use lib.Dec.{eqb}
+use lib.ListN.{length, getD, take, drop, length-append, length-take, length-drop, drop-of-length-le, length-map}
+use lib.Seq.{take-all, take-nil}
+use borrow.Author.Tests.{eq-eqb, ne-eqb}
+use Rattle.wire.specs.Bytes.{bigEndianBytes}
+use Rattle.wire.specs.BytesLaws.{length-bigEndianBytes}
+use Rattle.wire.specs.Numbers.{lt-or-ge}
+use Rattle.vlq.specs.Vlq.{vlqBytes}
+use Rattle.vlq.specs.ShortString.{shortStringBytes}
+use Rattle.types.specs.declared.Address.{Address}
+use Rattle.types.specs.declared.Address.the-variants.{None, V4, V6}
+use Rattle.handshake.specs.declared.FeatureRow.{FeatureRow}
+use Rattle.handshake.specs.declared.EntryRow.{EntryRow}
+use Rattle.handshake.specs.Entry.{addressOf}
+use Rattle.handshake.specs.Value.{EntryValue, featureBytes, versionBytes, addressBytes, entryBytes}
+use Rattle.handshake.specs.Tables.{Lent, rows, featureRow, ownRows, bytesAt, featureOf, entryOf}
+use Rattle.entry_ask.specs.RowsLaws.{length-rows}
+
+-- agent, version and name
+unfoldable pub headBytes : List ℕ → EntryRow → List ℕ
+headBytes buffer r =
+    shortStringBytes (bytesAt buffer (r .agentat) (r .agentlen))
+    ++ ((r .major ∷ r .minor ∷ r .patch ∷ []) ++ shortStringBytes (bytesAt buffer (r .nameat) (r .namelen)))
+
+-- n bytes from a place on, as far as they are there, without a place past the end
+pub part-clamped : (s : List ℕ) (at n : ℕ) → take (min (at + n) (length s) - min at (length s)) (drop (min at (length s)) s) ≡ bytesAt s at n
+part-clamped s at n =
+    ⊎-elim
+    (λ (h : length s < at).
+    let e : min at (length s) ≡ length s = omega arith in
+    rw (e, drop-of-length-le s {i = at} (omega arith), drop-of-length-le s {i = length s} (omega arith)) (take-nil (min (at + n) (length s) - length s) ∙ sym (take-nil n)))
+    (λ (h : at ≤ length s).
+    let e : min at (length s) ≡ at = omega arith in
+    rw e (⊎-elim
+    (λ (g : length s < at + n).
+    let d : length (drop at s) ≡ length s - at = length-drop at s in
+    take-all (min (at + n) (length s) - at) (drop at s) (omega (arith, d)) ∙ sym (take-all n (drop at s) (omega (arith, d))))
+    (λ (g : at + n ≤ length s). let m : min (at + n) (length s) - at ≡ n = omega arith in rw m)
+    (lt-or-ge (length s) (at + n))))
+    (lt-or-ge (length s) at)
+
+pub length-bytesAt-le : (s : List ℕ) (at n : ℕ) → length (bytesAt s at n) ≤ n
+length-bytesAt-le s at n = omega (arith, length-take n (drop at s))
+
+-- ---- an address
+
+module _ (bytes : List ℕ) (port : ℕ) where
+  pub length-v4 : (l : ℕ) → l ≡ 8 → length (addressBytes (addressOf l bytes port)) ≡ 6 + length (vlqBytes port)
+  unfolding addressBytes addressOf
+  length-v4 l e = rw e (go _)
+    where
+      go : (ip : ℕ) → length (1 ∷ 8 ∷ (bigEndianBytes 4 ip ++ vlqBytes port)) ≡ 6 + length (vlqBytes port)
+      go ip = omega (arith, length-append (bigEndianBytes 4 ip) (vlqBytes port), length-bigEndianBytes 4 ip)
+
+  pub length-v6 : (l : ℕ) → l ≡ 20 → length (addressBytes (addressOf l bytes port)) ≡ 18 + length (vlqBytes port)
+  unfolding addressBytes addressOf
+  length-v6 l e = rw e (go _ _)
+    where
+      go : (high low : ℕ) → length (1 ∷ 20 ∷ (bigEndianBytes 8 high ++ (bigEndianBytes 8 low ++ vlqBytes port))) ≡ 18 + length (vlqBytes port)
+      go high low =
+          omega (
+            arith,
+            length-append (bigEndianBytes 8 high) (bigEndianBytes 8 low ++ vlqBytes port),
+            length-append (bigEndianBytes 8 low) (vlqBytes port),
+            length-bigEndianBytes 8 high,
+            length-bigEndianBytes 8 low,
+          )
+
+  pub address-none : (l : ℕ) → (l ≡ 8 → ⊥) → (l ≡ 20 → ⊥) → addressBytes (addressOf l bytes port) ≡ 0 ∷ []
+  unfolding addressBytes addressOf
+  address-none l e f = rw (ne-eqb l 8 e, ne-eqb l 20 f)
+
+-- ---- a feature and an entry
+
+pub length-feature : (buffer : List ℕ) (f : FeatureRow)
+    → let n = length (bytesAt buffer (f .at) (f .len)) in length (featureBytes (featureOf buffer f)) ≡ 1 + length (vlqBytes n) + n
+unfolding featureBytes featureOf
+length-feature buffer f =
+    let b = bytesAt buffer (f .at) (f .len) in
+    omega (arith, length-append (vlqBytes (length b)) b)
+
+-- the bytes of an entry: its head, its address, its features
+module _ (l : Lent) (r : EntryRow) where
+  abbrev pub addr : List ℕ
+  addr = addressBytes (addressOf (r .addrlen) (bytesAt (l .buffer) (r .addrat) (r .addrlen - 4)) (r .port))
+
+  abbrev pub own : List ℕ
+  own = flatMap featureBytes (map (featureOf (l .buffer)) (ownRows l r))
+
+  pub entry-parts : entryBytes (entryOf l r) ≡ headBytes (l .buffer) r ++ (addr ++ (r .count ∷ own))
+  unfolding entryBytes entryOf headBytes versionBytes
+  entry-parts =
+      let count : length (map (featureOf (l .buffer)) (ownRows l r)) ≡ r .count =
+      length-map (ownRows l r) (featureOf (l .buffer)) ∙ length-rows (featureRow (l .features)) (r .first) (r .count) in
+      rw (count, append-assoc)
+
+  pub length-entry : length (entryBytes (entryOf l r)) ≡ length (headBytes (l .buffer) r) + length addr + 1 + length own
+  length-entry =
+      omega (arith, ap length entry-parts, length-append (headBytes (l .buffer) r) (addr ++ (r .count ∷ own)), length-append addr (r .count ∷ own))
+
+pub length-head : (buffer : List ℕ) (r : EntryRow)
+    → length (headBytes buffer r) ≡ 5 + length (bytesAt buffer (r .agentat) (r .agentlen)) + length (bytesAt buffer (r .nameat) (r .namelen))
+unfolding headBytes
+length-head buffer r =
+    let a = bytesAt buffer (r .agentat) (r .agentlen) in
+    let n = bytesAt buffer (r .nameat) (r .namelen) in
+    omega (arith, length-append (shortStringBytes a) ((r .major ∷ r .minor ∷ r .patch ∷ []) ++ shortStringBytes n), length-append (r .major ∷ r .minor ∷ r .patch ∷ []) (shortStringBytes n))

@@ -1,0 +1,5 @@
+pub mod Asked
+pub mod RowsLaws
+pub mod LengthLaws
+pub mod AskedLaws
+pub mod RowLaws

@@ -1,0 +1,211 @@
+// Entries, written from a table of rows beside a lent buffer (transport/handshake.rs, serialize_peer_entry).
+// A writer asks all its questions first and stores only once each is answered "yes".
+ghost use mathlib.Core.Bool.{_||_, true};
+ghost use mathlib.Core.Path.{_≡_};
+ghost use mathlib.Core.List.{[], _∷_, map, flatMap};
+ghost use Prim.Native.Nat.{_+_, _-_, _*_, _/_, _≤_};
+ghost use lib.Dec.{eqb, leb};
+ghost use lib.ListN.{length};
+ghost use Rattle.wire.specs.Bytes.{every};
+ghost use Rattle.wire.specs.Output.{ask, written, outputAfter};
+ghost use Rattle.wire.specs.OutputLaws.{Wrote};
+ghost use Rattle.vlq.specs.Vlq.{vlqBytes};
+ghost use Rattle.vlq.specs.ShortString.{shortStringBytes};
+ghost use Rattle.handshake.specs.Entry.{addressOf};
+ghost use Rattle.handshake.specs.Value.{addressBytes, featureBytes, entryBytes, shortStrings};
+ghost use Rattle.handshake.specs.Tables.{rows, featureRow, entryRow, bytesAt, featureOf, featureNumbers, entryOf, entryNumbers};
+ghost use Rattle.handshake.specs.Writes.{entryAt, rowAsked, entryWritten};
+ghost use Rattle.entry_ask.specs.Asked.{lent, rowWhole};
+ghost use Rattle.entry_ask.specs.LengthLaws.{headBytes};
+ghost use Rattle.entry_write.specs.Ready.{Ready};
+use entry_ask::address_size;
+use entry_ask::ask_place;
+use entry_ask::ask_row;
+use entry_ask::part_at;
+use entry_ask::tables_whole;
+use handshake::EntryRow;
+use handshake::FeatureRow;
+use vlq_write::vlq_len;
+use vlq_write::write_part;
+use vlq_write::write_vlq;
+use wire::Written;
+
+// The entry in row k. 16 is asked of this row and its feature rows alone.
+pub fn write_row(
+    out: &mut [u8],
+    at: usize,
+    entries: &[u32],
+    features: &[u32],
+    buffer: &[u8],
+    k: usize,
+) -> Written
+    ensures { λ r. ⌜ r ≡ written (ask 16 (rowWhole (lent (now (entries .entry)) (now (features .entry)) (now (buffer .entry))) k) ∷ []) (rowAsked (lent (now (entries .entry)) (now (features .entry)) (now (buffer .entry))) k) (now (out .entry)) at (entryBytes (entryAt (lent (now (entries .entry)) (now (features .entry)) (now (buffer .entry))) k)) ⌝ }
+    ensures { λ r. ⌜ now (out .exit) ≡ outputAfter r (now (out .entry)) at (entryBytes (entryAt (lent (now (entries .entry)) (now (features .entry)) (now (buffer .entry))) k)) ⌝ }
+{
+    let answer = ask_place(out.len(), at, ask_row(entries, features, buffer, k));
+    if let Written::To(_) = answer {
+        put_entry(out, at, features, buffer, entry_at(entries, k));
+    }
+    answer
+}
+
+// The entry in row k. 16 is asked of every row of both tables.
+pub fn write_entry(
+    out: &mut [u8],
+    at: usize,
+    entries: &[u32],
+    features: &[u32],
+    buffer: &[u8],
+    k: usize,
+) -> Written
+    ensures { λ r. ⌜ r ≡ entryWritten (lent (now (entries .entry)) (now (features .entry)) (now (buffer .entry))) k (now (out .entry)) at ⌝ }
+    ensures { λ r. ⌜ now (out .exit) ≡ outputAfter r (now (out .entry)) at (entryBytes (entryAt (lent (now (entries .entry)) (now (features .entry)) (now (buffer .entry))) k)) ⌝ }
+{
+    if !tables_whole(entries, features, buffer) {
+        return Written::Refused(16);
+    }
+    write_row(out, at, entries, features, buffer, k)
+}
+
+// Stores the entry of a row and gives the place after it.
+fn put_entry(out: &mut [u8], at: usize, features: &[u32], buffer: &[u8], e: EntryRow) -> usize
+    requires { ⌜ Ready (lent [] (now features) (now buffer)) e ⌝ }
+    requires { ⌜ at + length (entryBytes (entryOf (lent [] (now features) (now buffer)) e)) ≤ length (now out) ⌝ }
+    ensures { λ r. ⌜ Wrote (now (out .entry)) at (entryBytes (entryOf (lent [] (now (features .entry)) (now (buffer .entry))) e)) r (now (out .exit)) ⌝ }
+{
+    let a = put_head(out, at, buffer, e);
+    let b = put_address(out, a, buffer, e);
+    out[b] = e.count as u8;
+    put_features(out, b + 1, features, buffer, e)
+}
+
+// Stores agent, version and name.
+fn put_head(out: &mut [u8], at: usize, buffer: &[u8], e: EntryRow) -> usize
+    requires { ⌜ (entryNumbers e ≡ true) × (shortStrings (entryOf (lent [] [] (now buffer)) e) ≡ true) ⌝ }
+    requires { ⌜ at + length (headBytes (now buffer) e) ≤ length (now out) ⌝ }
+    ensures { λ r. ⌜ Wrote (now (out .entry)) at (headBytes (now (buffer .entry)) e) r (now (out .exit)) ⌝ }
+{
+    let a = put_string(out, at, part_at(buffer, e.agentat, e.agentlen));
+    let b = put_version(out, a, e);
+    put_string(out, b, part_at(buffer, e.nameat, e.namelen))
+}
+
+fn put_version(out: &mut [u8], at: usize, e: EntryRow) -> usize
+    requires { ⌜ entryNumbers e ≡ true ⌝ }
+    requires { ⌜ at + 3 ≤ length (now out) ⌝ }
+    ensures { λ r. ⌜ Wrote (now (out .entry)) at (e .major ∷ e .minor ∷ e .patch ∷ []) r (now (out .exit)) ⌝ }
+{
+    out[at] = e.major as u8;
+    out[at + 1] = e.minor as u8;
+    out[at + 2] = e.patch as u8;
+    at + 3
+}
+
+// Stores the address flag, and the address if there is one.
+fn put_address(out: &mut [u8], at: usize, buffer: &[u8], e: EntryRow) -> usize
+    requires { ⌜ (entryNumbers e ≡ true) × ((eqb (e .addrlen) 0 || leb (e .addrat + (e .addrlen - 4)) (length (now buffer))) ≡ true) ⌝ }
+    requires { ⌜ at + length (addressBytes (addressOf (e .addrlen) (bytesAt (now buffer) (e .addrat) (e .addrlen - 4)) (e .port))) ≤ length (now out) ⌝ }
+    ensures { λ r. ⌜ Wrote (now (out .entry)) at (addressBytes (addressOf (e .addrlen) (bytesAt (now (buffer .entry)) (e .addrat) (e .addrlen - 4)) (e .port))) r (now (out .exit)) ⌝ }
+{
+    if e.addrlen == 0 {
+        out[at] = 0;
+        return at + 1;
+    }
+    out[at] = 1;
+    out[at + 1] = e.addrlen as u8;
+    let a = put_part(
+        out,
+        at + 2,
+        part_at(buffer, e.addrat, address_size(e.addrlen)),
+    );
+    put_vlq(out, a, e.port as u64)
+}
+
+// Stores the features of a row.
+fn put_features(out: &mut [u8], at: usize, features: &[u32], buffer: &[u8], e: EntryRow) -> usize
+    requires { ⌜ e .first + e .count ≤ length (now features) / 3 ⌝ }
+    requires { ⌜ every featureNumbers (rows (featureRow (now features)) (e .first) (e .count)) ≡ true ⌝ }
+    requires { ⌜ at + length (flatMap featureBytes (map (featureOf (now buffer)) (rows (featureRow (now features)) (e .first) (e .count)))) ≤ length (now out) ⌝ }
+    ensures { λ r. ⌜ Wrote (now (out .entry)) at (flatMap featureBytes (map (featureOf (now (buffer .entry))) (rows (featureRow (now (features .entry))) (e .first) (e .count)))) r (now (out .exit)) ⌝ }
+{
+    let first = e.first as usize;
+    let count = e.count as usize;
+    let mut o = at;
+    let mut k: usize = 0;
+    while k < count {
+        o = put_feature(out, o, buffer, feature_at(features, first + k));
+        k += 1;
+    }
+    o
+}
+
+fn put_feature(out: &mut [u8], at: usize, buffer: &[u8], f: FeatureRow) -> usize
+    requires { ⌜ featureNumbers f ≡ true ⌝ }
+    requires { ⌜ at + length (featureBytes (featureOf (now buffer) f)) ≤ length (now out) ⌝ }
+    ensures { λ r. ⌜ Wrote (now (out .entry)) at (featureBytes (featureOf (now (buffer .entry)) f)) r (now (out .exit)) ⌝ }
+{
+    let body = part_at(buffer, f.at, f.len);
+    out[at] = f.id as u8;
+    let a = put_vlq(out, at + 1, body.len() as u64);
+    put_part(out, a, body)
+}
+
+// Stores a length byte and the bytes of s.
+fn put_string(out: &mut [u8], at: usize, s: &[u8]) -> usize
+    requires { ⌜ length (now s) ≤ 255 ⌝ }
+    requires { ⌜ at + length (shortStringBytes (now s)) ≤ length (now out) ⌝ }
+    ensures { λ r. ⌜ Wrote (now (out .entry)) at (shortStringBytes (now (s .entry))) r (now (out .exit)) ⌝ }
+{
+    out[at] = s.len() as u8;
+    put_part(out, at + 1, s)
+}
+
+// These two have room, so they are not refused.
+fn put_part(out: &mut [u8], at: usize, s: &[u8]) -> usize
+    requires { ⌜ at + length (now s) ≤ length (now out) ⌝ }
+    ensures { λ r. ⌜ Wrote (now (out .entry)) at (now (s .entry)) r (now (out .exit)) ⌝ }
+{
+    write_part(out, at, s);
+    at + s.len()
+}
+
+fn put_vlq(out: &mut [u8], at: usize, value: u64) -> usize
+    requires { ⌜ at + length (vlqBytes value) ≤ length (now out) ⌝ }
+    ensures { λ r. ⌜ Wrote (now (out .entry)) at (vlqBytes value) r (now (out .exit)) ⌝ }
+{
+    write_vlq(out, at, value);
+    at + vlq_len(value)
+}
+
+fn entry_at(t: &[u32], k: usize) -> EntryRow
+    requires { ⌜ 12 * k + 12 ≤ length (now t) ⌝ }
+    ensures { λ r. ⌜ r ≡ entryRow (now (t .entry)) k ⌝ }
+{
+    let b = 12 * k;
+    EntryRow {
+        agentat: t[b],
+        agentlen: t[b + 1],
+        major: t[b + 2],
+        minor: t[b + 3],
+        patch: t[b + 4],
+        nameat: t[b + 5],
+        namelen: t[b + 6],
+        addrlen: t[b + 7],
+        addrat: t[b + 8],
+        port: t[b + 9],
+        first: t[b + 10],
+        count: t[b + 11],
+    }
+}
+
+fn feature_at(t: &[u32], k: usize) -> FeatureRow
+    requires { ⌜ 3 * k + 3 ≤ length (now t) ⌝ }
+    ensures { λ r. ⌜ r ≡ featureRow (now (t .entry)) k ⌝ }
+{
+    let b = 3 * k;
+    FeatureRow {
+        id: t[b],
+        at: t[b + 1],
+        len: t[b + 2],
+    }
+}

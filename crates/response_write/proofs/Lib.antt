@@ -1,0 +1,2 @@
+pub mod LengthLoop
+pub mod Stores
