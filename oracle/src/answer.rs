@@ -10,6 +10,24 @@ pub enum Value {
     /// Printed as 1 or 0.
     Truth(bool),
     Bytes(Vec<u8>),
+    Word(&'static str),
+    /// Printed one after the other.
+    List(Vec<Value>),
+}
+
+impl Value {
+    /// Numbers, then the items that they count.
+    pub fn counted<const N: usize>(
+        numbers: [u64; N],
+        items: impl IntoIterator<Item = Value>,
+    ) -> Value {
+        Value::List(numbers.map(Value::Unsigned).into_iter().chain(items).collect())
+    }
+
+    /// A number, then bytes with the place where they stand.
+    pub fn headed(number: u64, place: u64, bytes: Value) -> Value {
+        Value::List(vec![Value::Unsigned(number), Value::Unsigned(place), bytes])
+    }
 }
 
 #[derive(Clone, Debug, PartialEq, Eq)]
@@ -48,6 +66,11 @@ impl fmt::Display for Value {
             Value::Signed(n) => write!(f, "{n}"),
             Value::Truth(yes) => write!(f, "{}", *yes as u8),
             Value::Bytes(bytes) => f.write_str(&hex(bytes)),
+            Value::Word(word) => f.write_str(word),
+            Value::List(values) => {
+                let texts: Vec<String> = values.iter().map(Value::to_string).collect();
+                f.write_str(&texts.join(" "))
+            }
         }
     }
 }

@@ -3,7 +3,7 @@
 use std::fmt::Write;
 
 /// The most numbers that a function takes.
-pub const WORDS: usize = 4;
+pub const WORDS: usize = 16;
 
 /// The most bytes of a case that a report shows.
 const SHOWN: usize = 1024;
@@ -76,6 +76,59 @@ impl Case {
     }
 }
 
+/// Tables of u32 and then a buffer, as the bytes of one case: before each table its length, all
+/// numbers as four bytes, little-endian.
+pub fn laid(tables: &[&[u32]], buffer: &[u8]) -> Vec<u8> {
+    let mut bytes = vec![];
+    for table in tables {
+        bytes.extend((table.len() as u32).to_le_bytes());
+        bytes.extend(table.iter().flat_map(|n| n.to_le_bytes()));
+    }
+    bytes.extend_from_slice(buffer);
+    bytes
+}
+
+/// The reverse of `laid`, of any bytes: a table has as many of its numbers as are there.
+pub fn tables<const N: usize>(mut bytes: &[u8]) -> ([Vec<u32>; N], &[u8]) {
+    let tables = std::array::from_fn(|_| match bytes.split_first_chunk() {
+        Some((length, rest)) => {
+            let length = (u32::from_le_bytes(*length) as usize).min(rest.len() / 4);
+            let (table, rest) = rest.split_at(4 * length);
+            bytes = rest;
+            let numbers = table.chunks(4).map(|n| n.try_into().expect("four bytes"));
+            numbers.map(u32::from_le_bytes).collect()
+        }
+        None => vec![],
+    });
+    (tables, bytes)
+}
+
+/// Strings of bytes and then others, as the bytes of one case: before each its length as four bytes,
+/// little-endian.
+pub fn joined(strings: &[&[u8]], others: &[u8]) -> Vec<u8> {
+    let mut bytes = vec![];
+    for string in strings {
+        bytes.extend((string.len() as u32).to_le_bytes());
+        bytes.extend_from_slice(string);
+    }
+    bytes.extend_from_slice(others);
+    bytes
+}
+
+/// The reverse of `joined`, of any bytes: a string has as many of its bytes as are there.
+pub fn strings<const N: usize>(mut bytes: &[u8]) -> ([&[u8]; N], &[u8]) {
+    let strings = std::array::from_fn(|_| match bytes.split_first_chunk() {
+        Some((length, rest)) => {
+            let (string, rest) =
+                rest.split_at((u32::from_le_bytes(*length) as usize).min(rest.len()));
+            bytes = rest;
+            string
+        }
+        None => &[],
+    });
+    (strings, bytes)
+}
+
 /// Bytes in hex; no bytes are `-`.
 pub fn hex(bytes: &[u8]) -> String {
     if bytes.is_empty() {
@@ -95,4 +148,24 @@ pub fn unhex(text: &str) -> Option<Vec<u8>> {
         return None;
     }
     (0..text.len()).step_by(2).map(|i| u8::from_str_radix(&text[i..i + 2], 16).ok()).collect()
+}
+
+#[cfg(test)]
+mod tests {
+    use super::*;
+
+    #[test]
+    fn tables_come_back_as_they_were_laid() {
+        let bytes = laid(&[&[1, 2, 0xffff_ffff], &[]], &[7, 8, 9]);
+        assert_eq!(tables::<2>(&bytes), ([vec![1, 2, 0xffff_ffff], vec![]], &[7, 8, 9][..]));
+        assert_eq!(tables::<1>(&bytes[..13]), ([vec![1, 2]], &[0xff][..]));
+        assert_eq!(tables::<2>(&[1, 2]), ([vec![], vec![]], &[1, 2][..]));
+    }
+
+    #[test]
+    fn strings_come_back_as_they_were_joined() {
+        let bytes = joined(&[b"ab", b""], &[7]);
+        assert_eq!(strings::<2>(&bytes), ([&b"ab"[..], b""], &[7][..]));
+        assert_eq!(strings::<1>(&bytes[..5]), ([&b"a"[..]], &[][..]));
+    }
 }

@@ -93,6 +93,37 @@ impl Kind {
     }
 }
 
+/// Each case of a kind several times, with each number of some as its number at `slot`.
+pub fn with<const N: usize>(kind: Kind, slot: usize, numbers: fn(&Case) -> [u64; N]) -> Kind {
+    let cases = match kind.cases {
+        Cases::Every(total, nth) => {
+            let each = move |i: u64, case: &mut Case| {
+                nth(i / N as u64, case);
+                case.words[slot] = numbers(case)[i as usize % N];
+            };
+            Cases::Every(total * N as u64, Box::new(each))
+        }
+        Cases::Random(count, make) => {
+            let each = move |rng: &mut Rng, visit: Visit| {
+                make(rng, &mut |case| {
+                    let mut copy = case.clone();
+                    for number in numbers(case) {
+                        copy.words[slot] = number;
+                        visit(&copy);
+                    }
+                })
+            };
+            Cases::Random(count, Box::new(each))
+        }
+    };
+    Kind { name: kind.name, cases }
+}
+
+/// Each case of a kind on both networks; mainnet is any number but 0.
+pub fn networks(kind: Kind, slot: usize) -> Kind {
+    with(kind, slot, |case| [0, [1, 1, 2, 255][case.bytes.len() % 4]])
+}
+
 /// Every input of at most `longest` bytes, at place 0.
 pub fn short(longest: u32) -> Kind {
     let total = (0..=longest).map(|n| 256u64.pow(n)).sum();
@@ -135,7 +166,7 @@ fn shared(longest: u32, count: u64, edges: Vec<Case>, laid: Laid, input: Input) 
         short(longest),
         Kind::random("boundary", count, move |rng, visit| visit(&laid(rng, input).0)),
         Kind::random("damaged", count / 2, move |rng, visit| {
-            let (case, range) = laid(rng, input);
+            let (case, range) = brief(rng, |rng| laid(rng, input), |(case, _)| case);
             damage(rng, &case, range, visit);
         }),
         Kind::random("random", count / 4, |rng, visit| {
@@ -173,6 +204,19 @@ fn surrounded(rng: &mut Rng, input: Input) -> (Case, Range<usize>) {
 pub fn places(rng: &mut Rng, length: u64) -> [u64; 6] {
     let past = length + 2 + rng.below(100);
     [rng.below(length + 1), length, length + 1, past, past << 32, u64::MAX - rng.below(2)]
+}
+
+/// The longest case of which all damaged copies are made, so that many cases have some.
+const BRIEF: usize = 400;
+
+/// Makes one of the brief ones.
+pub fn brief<T>(rng: &mut Rng, make: impl Fn(&mut Rng) -> T, case: impl Fn(&T) -> &Case) -> T {
+    loop {
+        let made = make(rng);
+        if case(&made).bytes.len() <= BRIEF {
+            return made;
+        }
+    }
 }
 
 /// Copies of a case with one thing wrong in a range of its bytes: cut at each byte, each byte

@@ -1,6 +1,17 @@
 //! Our library's exported functions, each with a safe form that also tests that a refusal changes
 //! nothing and that a write changes only the bytes it reports.
 
+#[cfg(feature = "builds")]
+pub mod builds;
+pub mod entries;
+pub mod frames;
+#[cfg(feature = "messages")]
+pub mod messages;
+#[cfg(feature = "sessions")]
+pub mod sessions;
+#[cfg(feature = "writers")]
+pub mod writers;
+
 use crate::answer::{Answer, Value};
 
 // Nothing checks these declarations against the library. A slice passes as a pointer and a length,
@@ -60,7 +71,7 @@ fn reached<const N: usize>(
     match result.map(value) {
         Ok((Some(value), next)) => Answer::Reached(value, next),
         Ok((None, _)) => {
-            Answer::Broken("the part lies outside the bytes or does not end at the next place")
+            Answer::Broken("what it names lies outside the bytes or does not end at the next place")
         }
         Err(refused) => refused,
     }
@@ -72,7 +83,17 @@ fn part(s: &[u8], start: u64, length: u64, next: u64) -> Option<Value> {
     (part.len() as u64 == length).then(|| Value::Bytes(part.to_vec()))
 }
 
-// SAFETY, of every call below: a pointer and a length come from one slice, a result array is
+/// A number, and bytes by place and length that end at the next place.
+fn ended(s: &[u8], [number, start, length, next]: [u64; 4]) -> Option<Value> {
+    part(s, start, length, next).map(|bytes| Value::headed(number, start, bytes))
+}
+
+/// So many bytes of s from `start` on.
+fn part_at(s: &[u8], start: u64, length: u64) -> Option<Value> {
+    part(s, start, length, start.checked_add(length)?)
+}
+
+// SAFETY, of every call below and in the modules of this one: a pointer and a length come from one slice, a result array is
 // borrowed for the call, and our functions read and write within these alone.
 
 pub fn read_byte(s: &[u8], at: usize) -> Answer {

@@ -2,6 +2,14 @@
 //! Where the Rust cannot say what document 01 asks, document 01's answer stands in its place and
 //! is marked as such.
 
+pub mod builds;
+pub mod entries;
+pub mod frames;
+pub mod messages;
+pub mod sessions;
+pub mod tables;
+pub mod writers;
+
 use crate::answer::{Answer, Expected, Value};
 use crate::hashes;
 use p2p::protocol::address_sanity::is_bogus_address;
@@ -16,7 +24,19 @@ use std::string::FromUtf8Error;
 pub const LIMIT: u64 = 16_388_608;
 
 /// How the text of a refusal by the Rust begins, and document 01's number for it.
-const TEXTS: [(&str, u8); 2] = [("VLQ overflow", 2), ("VLQ length too large", 3)];
+const TEXTS: [(&str, u8); 11] = [
+    ("VLQ overflow", 2),
+    ("VLQ length too large", 3),
+    ("Frame too short", 5),
+    ("Bad magic", 6),
+    ("Body too large", 7),
+    ("Frame truncated", 8),
+    ("Checksum mismatch", 9),
+    ("INV/Request count", 10),
+    ("ModifierResponse count", 10),
+    ("Peers count", 10),
+    ("ModifierResponse declared payload", 11),
+];
 
 /// Document 01's number for a refusal by the Rust.
 fn number(e: &io::Error) -> u8 {
@@ -26,8 +46,12 @@ fn number(e: &io::Error) -> u8 {
     if e.get_ref().is_some_and(|inner| inner.is::<FromUtf8Error>()) {
         return 4;
     }
-    let text = e.to_string();
-    let found = TEXTS.iter().find(|(start, _)| text.starts_with(start));
+    numbered(&TEXTS, &e.to_string())
+}
+
+/// The number of the text that begins so.
+fn numbered(texts: &[(&str, u8)], text: &str) -> u8 {
+    let found = texts.iter().find(|(start, _)| text.starts_with(start));
     found.unwrap_or_else(|| panic!("no number for the Rust's refusal: {text}")).1
 }
 
@@ -43,20 +67,35 @@ where
     if at > s.len() as u64 {
         return refused(12);
     }
+    let mut cursor = cursor(s, at);
+    let value = reader(&mut cursor);
+    Expected::Rust(answer(value.map(|value| (value, cursor.position()))))
+}
+
+/// A value and the next place, by the Rust.
+type Reading = io::Result<(Value, u64)>;
+
+fn answer(reading: Reading) -> Answer {
+    match reading {
+        Ok((value, next)) => Answer::Reached(value, next),
+        Err(e) => Answer::Refused(number(&e)),
+    }
+}
+
+fn cursor(s: &[u8], at: u64) -> Cursor<&[u8]> {
     let mut cursor = Cursor::new(s);
     cursor.set_position(at);
-    Expected::Rust(match reader(&mut cursor) {
-        Ok(value) => Answer::Reached(value, cursor.position()),
-        Err(e) => Answer::Refused(number(&e)),
-    })
+    cursor
+}
+
+fn byte(cursor: &mut Cursor<&[u8]>) -> io::Result<u8> {
+    let mut byte = [0u8; 1];
+    cursor.read_exact(&mut byte)?;
+    Ok(byte[0])
 }
 
 pub fn read_byte(s: &[u8], at: u64) -> Expected {
-    read(s, at, |cursor| {
-        let mut byte = [0u8; 1];
-        cursor.read_exact(&mut byte)?;
-        Ok(Value::Unsigned(byte[0].into()))
-    })
+    read(s, at, |cursor| byte(cursor).map(|b| Value::Unsigned(b.into())))
 }
 
 pub fn read_vlq(s: &[u8], at: u64) -> Expected {
@@ -143,19 +182,27 @@ pub fn is_utf8(s: &[u8]) -> Expected {
     is(Value::Truth(std::str::from_utf8(s).is_ok()))
 }
 
-/// The address is its bytes as a big-endian number; any `mainnet` but 0 is mainnet.
+/// The address is its bytes as a big-endian number.
 pub fn is_bogus_v4(address: u32, port: u16, mainnet: u8) -> Expected {
     is_bogus(Ipv4Addr::from(address).into(), port, mainnet)
 }
 
-/// The address is its bytes as two big-endian numbers; any `mainnet` but 0 is mainnet.
+/// The address is its bytes as two big-endian numbers.
 pub fn is_bogus_v6(high: u64, low: u64, port: u16, mainnet: u8) -> Expected {
     is_bogus(Ipv6Addr::from((high as u128) << 64 | low as u128).into(), port, mainnet)
 }
 
 fn is_bogus(ip: IpAddr, port: u16, mainnet: u8) -> Expected {
-    let network = if mainnet == 0 { Network::Testnet } else { Network::Mainnet };
-    is(Value::Truth(is_bogus_address(SocketAddr::new(ip, port), network)))
+    is(Value::Truth(is_bogus_address(SocketAddr::new(ip, port), network(mainnet))))
+}
+
+/// Any `mainnet` but 0 is mainnet.
+fn network(mainnet: u8) -> Network {
+    if mainnet == 0 {
+        Network::Testnet
+    } else {
+        Network::Mainnet
+    }
 }
 
 /// The six files hold no hash; three implementations must agree on it.

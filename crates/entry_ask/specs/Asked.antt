@@ -5,7 +5,7 @@ use mathlib.Core.List.{List, [], _∷_, flatMap}
 use lib.Dec.{eqb, leb, ltb}
 use lib.ListN.{length}
 use Rattle.wire.specs.Bytes.{every}
-use Rattle.wire.specs.Output.{Question, ask, asked}
+use Rattle.wire.specs.Output.{ask, asked}
 use Rattle.wire.specs.declared.Written.{Written}
 use Rattle.wire.specs.declared.Written.the-variants.{To, Refused}
 use Rattle.vlq.specs.Vlq.{limit}

@@ -1,28 +1,26 @@
 -- Laws of the questions: each question over all rows as the code asks it, 16 of one row where it holds of both tables, the place and the room
 -- beside the other questions.
-use Prim.Native.Nat.{ℕ, _+_, _-_, _/_, _≤_, _<_}
+use Prim.Native.Nat.{ℕ, _+_, _/_, _≤_, _<_}
 use native.Mathlib.Omega.{arith}
-use mathlib.Core.Bool.{Bool, true, false, _&&_, _||_}
-use mathlib.Core.List.{List, [], _∷_, map}
-use mathlib.Core.Logic.{_⊎_, inl, inr, ⊎-elim}
+use mathlib.Core.Bool.{Bool, true, false, _||_}
+use mathlib.Core.List.{List, [], _∷_}
+use mathlib.Core.Logic.{⊎-elim}
 use mathlib.Core.Path.{_≡_, refl, sym, ap, _∙_}
-use lib.Dec.{eqb, leb, ltb}
+use lib.Dec.{leb, ltb}
 use lib.ListN.{length, length-map}
-use borrow.Author.Tests.{le-leb, lt-leb, leb-true, lt-ltb, le-ltb, ltb-true}
+use borrow.Author.Tests.{le-leb, lt-leb, leb-true, lt-ltb, le-ltb}
 use Rattle.wire.specs.Bytes.{every}
 use Rattle.wire.specs.BytesLaws.{and-true, every-map}
 use Rattle.wire.specs.Numbers.{lt-or-ge}
 use Rattle.wire.specs.Output.{ask, asked}
-use Rattle.wire.specs.OutputLaws.{AllHold}
-use Rattle.wire.specs.declared.Written.{Written}
 use Rattle.wire.specs.declared.Written.the-variants.{To, Refused}
 use Rattle.vlq_write.specs.Asked.{writtenFor}
 use Rattle.vlq.specs.Vlq.{limit}
 use Rattle.handshake.specs.declared.FeatureRow.{FeatureRow}
 use Rattle.handshake.specs.declared.EntryRow.{EntryRow}
 use Rattle.handshake.specs.Value.{EntryValue, shortStrings, utf8Strings, fewFeatures, lengthsWithin, entriesAsked}
-use Rattle.handshake.specs.Tables.{Lent, rows, featureRow, entryRow, entryRows, featureRows, ownRows, featureOf, entryOf, entriesOf, wholeRows, featureNumbers, entryNumbers, tablesWhole, inside, featureInside, entryInside}
-use Rattle.handshake.specs.TablesLaws.{row-numbers, row-inside, whole-entries, every-row}
+use Rattle.handshake.specs.Tables.{Lent, featureRow, entryRow, entryRows, featureRows, ownRows, featureOf, entryOf, entriesOf, wholeRows, featureNumbers, entryNumbers, tablesWhole, featureInside, entryInside}
+use Rattle.handshake.specs.TablesLaws.{every-row}
 use Rattle.handshake.specs.Writes.{rowInside, rowAsked}
 use Rattle.entry_ask.specs.Asked.{lent, featureHolds, rowHolds, numbersWhole, rowWhole, entrySaid, rowSaid, partsSaid, placed}
 use Rattle.entry_ask.specs.RowsLaws.{length-rows, every-rows}

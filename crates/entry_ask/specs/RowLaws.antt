@@ -1,8 +1,8 @@
 -- Once every question over all rows is answered "yes", so are those of each row alone: a writer of all entries is not refused at any of them.
 use Prim.Native.Nat.{ℕ, _/_, _<_}
 use native.Mathlib.Omega.{arith}
-use mathlib.Core.Bool.{Bool, true, _&&_}
-use mathlib.Core.List.{List, [], _∷_}
+use mathlib.Core.Bool.{Bool, true}
+use mathlib.Core.List.{[], _∷_}
 use mathlib.Core.Path.{_≡_, sym, _∙_}
 use lib.ListN.{length}
 use borrow.Author.Tests.{lt-ltb}
@@ -10,11 +10,9 @@ use Rattle.wire.specs.Bytes.{every}
 use Rattle.wire.specs.BytesLaws.{every-map}
 use Rattle.wire.specs.OutputLaws.{AllHold}
 use Rattle.handshake.specs.Value.{EntryValue, shortStrings, utf8Strings, fewFeatures, lengthsWithin, entriesAsked}
-use Rattle.handshake.specs.Tables.{Lent, entryRow, entryRows, entryOf, entriesOf, tablesWhole, entryInside}
+use Rattle.handshake.specs.Tables.{Lent, entryRow, entryRows, entryOf, entriesOf, entryInside}
 use Rattle.handshake.specs.TablesLaws.{every-row}
 use Rattle.handshake.specs.Writes.{entryAt, rowInside, rowAsked}
-use Rattle.entry_ask.specs.Asked.{rowWhole}
-use Rattle.entry_ask.specs.AskedLaws.{whole-row}
 
 module _ (l : Lent) (k : ℕ) (h : k < length (l .entries) / 12) where
   value-of-row : (test : EntryValue → Bool) → every test (entriesOf l) ≡ true → every test (entryAt l k ∷ []) ≡ true

@@ -1,8 +1,8 @@
 -- The four bytes of a number below 2^32, one division each.
 use Prim.Native.Nat.{ℕ, _/_, _%_, _<_}
 use native.Mathlib.Omega.{arith}
-use mathlib.Core.List.{List, [], _∷_}
-use mathlib.Core.Path.{_≡_, refl, sym, ap}
+use mathlib.Core.List.{[], _∷_}
+use mathlib.Core.Path.{_≡_}
 use Rattle.wire.specs.Bytes.{bigEndianBytes}
 
 pub four-bytes : (n : ℕ) → n < 4294967296 → (n / 16777216) ∷ (n / 65536 % 256) ∷ (n / 256 % 256) ∷ (n % 256) ∷ [] ≡ bigEndianBytes 4 n

@@ -2,7 +2,7 @@
 use Prim.Native.Nat.{ℕ, _+_}
 use native.Mathlib.Omega.{arith}
 use mathlib.Core.List.{List, [], _∷_}
-use mathlib.Core.Path.{_≡_, refl, sym, ap}
+use mathlib.Core.Path.{_≡_, refl}
 use lib.ListN.{length, getD, set}
 use Rattle.wire.specs.Bytes.{bigEndianBytes}
 use Rattle.wire.specs.Output.{put}

@@ -1,6 +1,6 @@
 -- What a writer of a frame says by sizes alone: the length of its body, the place, and the length of the output.
 use Prim.Native.Nat.{ℕ, zero, suc, _+_}
-use mathlib.Core.List.{List, [], _∷_}
+use mathlib.Core.List.{[], _∷_}
 use lib.Dec.{leb}
 use Rattle.wire.specs.Output.{ask}
 use Rattle.wire.specs.declared.Written.{Written}

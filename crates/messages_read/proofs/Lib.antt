@@ -1,2 +1,2 @@
-pub mod ListLoop
+pub mod BogusLoop
 pub mod AnswerLaws

@@ -1,7 +1,7 @@
 -- Laws of the writers of messages: what is said by sizes is what `messageWritten` says, with any cap but for Peers; and the lengths of bodies.
 use Prim.Native.Nat.{ℕ, zero, suc, _+_, _*_, _≤_}
 use native.Mathlib.Omega.{arith}
-use mathlib.Core.Bool.{Bool, true, false, _&&_}
+use mathlib.Core.Bool.{true}
 use mathlib.Core.List.{List, [], _∷_, _++_, map, flatMap}
 use mathlib.Core.Path.{_≡_, refl, sym, ap, _∙_}
 use lib.Dec.{leb}
@@ -10,7 +10,7 @@ use borrow.Author.Tests.{le-leb, leb-true}
 use Rattle.wire.specs.Bytes.{every}
 use Rattle.wire.specs.BytesLaws.{and-true}
 use Rattle.wire.specs.declared.Written.{Written}
-use Rattle.wire.specs.declared.Written.the-variants.{To, Refused}
+use Rattle.wire.specs.declared.Written.the-variants.{To}
 use Rattle.wire.specs.Output.{put, ask, asked, written, outputAfter}
 use Rattle.wire.specs.OutputLaws.{Wrote, wrote-byte, wrote-then, wrote-checked, asked-to, written-to}
 use Rattle.vlq.specs.Vlq.{limit, vlqBytes}

@@ -1,7 +1,7 @@
 // Messages, written as whole frames into a lent output from a place (protocol/messages.rs). ModifierResponse stands in response_write, Peers in
 // peers_write. Each writer asks its questions first and stores only once all are answered "yes".
 ghost use mathlib.Core.Bool.{true};
-ghost use mathlib.Core.List.{_∷_, flatMap};
+ghost use mathlib.Core.List.{flatMap};
 ghost use mathlib.Core.Path.{_≡_};
 ghost use Prim.Native.Nat.{_+_, _*_, _≤_};
 ghost use lib.ListN.{length};

@@ -3,8 +3,7 @@ use Prim.Native.Nat.{ℕ, _+_, _-_, _*_, _≤_, _<_}
 use native.Mathlib.Nat.{sub-zero}
 use native.Mathlib.Omega.{arith}
 use mathlib.Core.Bool.{true}
-use mathlib.Core.List.{List, [], _∷_}
-use mathlib.Core.Path.{_≡_, refl, sym, ap, _∙_}
+use mathlib.Core.Path.{_≡_, ap}
 use Rattle.wire.specs.Bytes.{every}
 use Rattle.handshake.specs.Tables.{rows}
 use Rattle.messages.specs.declared.PayloadRow.{PayloadRow}

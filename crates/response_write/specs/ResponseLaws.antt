@@ -1,11 +1,11 @@
 -- Laws of the writer of ModifierResponse: what is said by sizes is what `messageWritten` says, and the lengths of rows and of the body.
-use Prim.Native.Nat.{ℕ, zero, suc, _+_, _*_, _/_, _≤_}
+use Prim.Native.Nat.{ℕ, _+_, _/_, _≤_}
 use native.Mathlib.Omega.{arith}
-use mathlib.Core.Bool.{Bool, true, false, _&&_}
+use mathlib.Core.Bool.{true}
 use mathlib.Core.List.{List, [], _∷_, _++_, map, flatMap}
 use mathlib.Core.Path.{_≡_, refl, sym, ap, _∙_}
 use lib.Dec.{leb}
-use lib.ListN.{length, getD, length-append, length-map}
+use lib.ListN.{length, length-append, length-map}
 use borrow.Author.Tests.{leb-true}
 use Rattle.wire.specs.Bytes.{every}
 use Rattle.wire.specs.BytesLaws.{and-true}
@@ -17,7 +17,7 @@ use Rattle.vlq.specs.Vlq.{limit, vlqBytes}
 use Rattle.types.specs.declared.Network.{Network}
 use Rattle.frame_write.specs.Asked.{frameLength}
 use Rattle.frame_write.specs.FrameWriteLaws.{length-frame}
-use Rattle.handshake.specs.Tables.{rows, bytesAt, inside}
+use Rattle.handshake.specs.Tables.{bytesAt, inside}
 use Rattle.handshake.specs.TablesLaws.{length-bytesAt}
 use Rattle.handshake.specs.Value.{entriesAsked}
 use Rattle.messages.specs.Value as Values

@@ -1,9 +1,16 @@
 //! Measures our functions against others in one run, and fails where ours is slower than a bound.
 
+use blake2::PORTABLE;
 use oracle::{hashes, ours};
+use p2p::protocol::messages::{build_peers_body, parse_peers_body};
+use p2p::transport::frame::{decode, encode, Frame};
+use p2p::transport::handshake::{parse, serialize_peer_entry, Feature, PeerSpec};
+use p2p::types::{Network, Version};
+use std::fmt::Debug;
 use std::hint::black_box;
 use std::os::raw::{c_int, c_long};
 use std::process::ExitCode;
+use std::sync::atomic::Ordering;
 
 /// A sample is the fastest of so many rounds, in which the sides are timed by turns: other programs
 /// on the machine only ever add to a time. The median of the samples counts, and the samples of all
@@ -25,7 +32,99 @@ struct Row {
 }
 
 fn rows() -> Vec<Row> {
-    vec![hash("hash of 16 MiB", 1.4, 16 << 20, 1), hash("hash of 100 bytes", 1.2, 100, 20_000)]
+    vec![
+        hash("hash of 16 MiB", 1.4, 16 << 20, 1),
+        hash("hash of 100 bytes", 1.2, 100, 20_000),
+        handshake(20_000),
+        frame("decode of 100 bytes", 100, 20_000),
+        frame("decode of 64 KiB", 64 << 10, 50),
+        peers(400),
+    ]
+}
+
+/// A row of one reader on both sides, on the same bytes and so many times; ours may not be slower.
+fn reader(
+    name: &'static str,
+    calls: usize,
+    bytes: Vec<u8>,
+    ours: fn(&[u8]),
+    rust: fn(&[u8]),
+) -> Row {
+    let side = |name, read: fn(&[u8])| {
+        let bytes = bytes.clone();
+        Side { name, run: Box::new(move || (0..calls).for_each(|_| read(black_box(&bytes)))) }
+    };
+    Row { name, bound: 1.0, ours: side("ours", ours), others: vec![side("the Rust", rust)] }
+}
+
+/// A reading that is there and that nothing may leave out.
+fn keep<T, E: Debug>(reading: Result<T, E>) {
+    black_box(reading.expect("a reading"));
+}
+
+fn handshake(calls: usize) -> Row {
+    let mut bytes = vec![0xc0, 0xa5, 0xcb, 0xd5, 0xa8, 0x33];
+    serialize_peer_entry(&peer(1), &mut bytes);
+    reader(
+        "parse of a handshake",
+        calls,
+        bytes,
+        |s| keep(ours::entries::parsed(s)),
+        |s| keep(parse(s)),
+    )
+}
+
+/// A frame, by the Rust also with a hash that has no vector instructions.
+fn frame(name: &'static str, length: usize, calls: usize) -> Row {
+    let body = (0..length).map(|i| (i * 31) as u8).collect();
+    let bytes = encode(&Network::Mainnet.magic(), &Frame { code: 65, body });
+    let rust: fn(&[u8]) = |s| keep(decode(&Network::Mainnet.magic(), s));
+    let ours: fn(&[u8]) = |s| keep(ours::frames::decoded(s, 0, 1));
+    let mut row = reader(name, calls, bytes.clone(), ours, rust);
+    let portable = move || {
+        PORTABLE.store(true, Ordering::Relaxed);
+        (0..calls).for_each(|_| rust(black_box(&bytes)));
+        PORTABLE.store(false, Ordering::Relaxed);
+    };
+    row.others.push(Side { name: "over blake2-rfc", run: Box::new(portable) });
+    row
+}
+
+/// A body of Peers, of which our side reads entry after entry.
+fn peers(calls: usize) -> Row {
+    let specs: Vec<PeerSpec> = (0..ENTRIES).map(|i| peer(i as u8)).collect();
+    reader(
+        "Peers of 64 entries",
+        calls,
+        build_peers_body(&specs),
+        |s| {
+            let mut at = 1;
+            for _ in 0..s[0] {
+                let [.., next] = ours::entries::entry_at(s, at).expect("an entry");
+                at = black_box(next) as usize;
+            }
+        },
+        |s| keep(parse_peers_body(s, ENTRIES)),
+    )
+}
+
+const ENTRIES: usize = 64;
+
+/// A peer as nodes of the network tell of one.
+fn peer(number: u8) -> PeerSpec {
+    let url = b"\x1fhttp://203.0.113.57:9053/api/v1";
+    let feature = |id, body: &[u8]| Feature { id, body: body.to_vec() };
+    PeerSpec {
+        agent: "ergoref".into(),
+        version: Version::new(6, 0, 1),
+        name: "ergo-mainnet-6.0.1".into(),
+        address: Some(([213, 239, 193, number], 9030).into()),
+        features: vec![
+            feature(16, &[0, 1, 0, 1]),
+            feature(3, &[1, 0, 2, 4, 0xe9, 0xa2, 0xd3, 0x91, 0xc5, 0xb8, 0xa0, 0xf1, 0x1c]),
+            feature(4, url),
+        ],
+    }
 }
 
 fn hash(name: &'static str, bound: f64, length: usize, calls: usize) -> Row {
@@ -63,9 +162,9 @@ fn report(row: &Row, samples: &[Vec<f64>]) -> bool {
     let times = |i: usize| median(samples.iter().map(|sample| sample[i]).collect());
     let ratio = |i: usize| median(samples.iter().map(|sample| sample[0] / sample[i]).collect());
     println!("{}:", row.name);
-    println!("  {:<10} {:7.3} ms", "ours", times(0));
+    println!("  {:<15} {:7.3} ms", "ours", times(0));
     for (i, name) in row.others.iter().map(|side| side.name).enumerate() {
-        println!("  {name:<10} {:7.3} ms, ours to it {:.3}", times(i + 1), ratio(i + 1));
+        println!("  {name:<15} {:7.3} ms, ours to it {:.3}", times(i + 1), ratio(i + 1));
     }
     let within = ratio(1) <= row.bound;
     let verdict = if within { "within" } else { "above" };

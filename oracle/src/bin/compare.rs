@@ -1,13 +1,13 @@
 //! Compares our library with the Rust on every function's cases.
-//! `compare [--seed N] [--scale X] [--only FUNCTION]`, or `compare --case FUNCTION NUMBER.. HEX`.
+//! `compare [--seed N] [--scale X] [--only NAME]`, or `compare --case FUNCTION NUMBER.. HEX`.
 
 use oracle::case::Case;
 use oracle::compare::{run, Difference, Tally};
-use oracle::functions::{table, Function};
+use oracle::functions::{named, table, Function};
 use std::process::ExitCode;
 use std::time::Instant;
 
-const USAGE: &str = "compare [--seed N] [--scale X] [--only FUNCTION]
+const USAGE: &str = "compare [--seed N] [--scale X] [--only NAME]   (a function or a group)
 compare --case FUNCTION NUMBER.. HEX   (`-` for no bytes)";
 
 struct Options {
@@ -43,7 +43,7 @@ fn options(words: &[String]) -> Option<Options> {
             _ => return None,
         }
     }
-    let known = |name: &String| table().iter().any(|f| f.name == name);
+    let known = |name: &String| !named(name).is_empty();
     options.only.as_ref().is_none_or(known).then_some(options)
 }
 
@@ -61,15 +61,15 @@ fn one(words: &[String]) -> Option<bool> {
 fn all(options: &Options) -> bool {
     println!("seed {} scale {}", options.seed, options.scale);
     println!(
-        "{:<18} {:<11} {:>10} {:>14} {:>8}",
+        "{:<23} {:<13} {:>10} {:>14} {:>8}",
         "function", "kind", "agreed", "not comparable", "differed"
     );
     let start = Instant::now();
     let mut total = Tally::default();
     let mut met = true;
-    for f in table().iter().filter(|f| options.only.as_ref().is_none_or(|name| f.name == name)) {
-        let tally = function(f, options);
-        met &= is_met(f, &tally);
+    for f in options.only.as_ref().map_or_else(table, |name| named(name)) {
+        let tally = function(&f, options);
+        met &= is_met(&f, &tally);
         total.add(tally);
     }
     let Tally { agreed, not_comparable, differed, .. } = total;
@@ -87,7 +87,7 @@ fn function(f: &Function, options: &Options) -> Tally {
         let tally = run(f, i, options.seed, options.scale);
         let Tally { agreed, not_comparable, differed, .. } = tally;
         println!(
-            "{:<18} {:<11} {agreed:>10} {not_comparable:>14} {differed:>8}",
+            "{:<23} {:<13} {agreed:>10} {not_comparable:>14} {differed:>8}",
             f.name, kind.name
         );
         if let Some(Difference { case, expected, ours }) = &tally.smallest {
@@ -99,7 +99,7 @@ fn function(f: &Function, options: &Options) -> Tally {
     let numbers = sum.refused.iter().enumerate().filter(|(_, n)| **n > 0);
     let refused: String = numbers.map(|(i, n)| format!(", refused with {i}: {n}")).collect();
     let yes = if sum.yes > 0 { format!(" (true: {})", sum.yes) } else { String::new() };
-    println!("{:<18} accepted: {}{yes}{refused}", f.name, sum.accepted);
+    println!("{:<23} accepted: {}{yes}{refused}", f.name, sum.accepted);
     sum
 }
 
@@ -108,7 +108,7 @@ fn is_met(f: &Function, tally: &Tally) -> bool {
     let missing: Vec<_> =
         f.told.iter().chain(f.untold).filter(|n| tally.refused[**n as usize] == 0).collect();
     for number in &missing {
-        println!("{:<18} no case is refused with {number}", f.name);
+        println!("{:<23} no case is refused with {number}", f.name);
     }
     missing.is_empty()
 }

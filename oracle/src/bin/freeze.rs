@@ -1,9 +1,9 @@
 //! Writes a fixed list of cases and, one line each, the Rust's answers to them.
-//! `freeze CASES ANSWERS [FUNCTION..]` with the names of two files, for all functions or for some.
+//! `freeze CASES ANSWERS NAME..` with the names of two files, and of functions or groups of them.
 
 use oracle::answer::{Answer, Expected};
 use oracle::case::Case;
-use oracle::functions::{table, Function};
+use oracle::functions::{named, Function};
 use oracle::kinds::EDGES;
 use oracle::rng::Rng;
 use std::fs;
@@ -19,22 +19,24 @@ const LONGEST_FILE: usize = 60_000;
 
 fn main() -> ExitCode {
     let words: Vec<String> = std::env::args().skip(1).collect();
-    let rows = table();
     match &words[..] {
-        [cases, answers, names @ ..] if names.iter().all(|n| rows.iter().any(|f| f.name == n)) => {
-            let rows =
-                rows.iter().filter(|f| names.is_empty() || names.iter().any(|n| f.name == n));
-            write(cases, answers, rows);
+        [cases, answers, names @ ..] if are_known(names) => {
+            let rows: Vec<Function> = names.iter().flat_map(|name| named(name)).collect();
+            write(cases, answers, &rows);
             ExitCode::SUCCESS
         }
         _ => {
-            eprintln!("freeze CASES ANSWERS [FUNCTION..]");
+            eprintln!("freeze CASES ANSWERS NAME..");
             ExitCode::from(2)
         }
     }
 }
 
-fn write<'a>(cases_file: &str, answers_file: &str, rows: impl Iterator<Item = &'a Function>) {
+fn are_known(names: &[String]) -> bool {
+    !names.is_empty() && names.iter().all(|name| !named(name).is_empty())
+}
+
+fn write(cases_file: &str, answers_file: &str, rows: &[Function]) {
     let mut cases = vec![];
     let mut answers = String::new();
     let mut count = 0;

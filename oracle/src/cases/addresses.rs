@@ -57,6 +57,20 @@ fn v6_ends() -> Vec<u128> {
         .collect()
 }
 
+/// An address at an end of a range, or any.
+pub fn near_v4(rng: &mut Rng) -> u32 {
+    let (first, prefix) = rng.pick(&V4);
+    let mut near = ends(u32::from(Ipv4Addr::from(first)).into(), prefix, 32);
+    near.nth(rng.below(12) as usize).map_or_else(|| rng.u64() as u32, |n| n as u32)
+}
+
+/// An address at an end of a range, or any.
+pub fn near_v6(rng: &mut Rng) -> u128 {
+    let (first, prefix) = rng.pick(&V6);
+    let mut near = ends(u128::from(Ipv6Addr::from(first)), prefix, 128);
+    near.nth(rng.below(12) as usize).unwrap_or_else(|| segments(rng))
+}
+
 fn v4_case(address: u32, port: u64, mainnet: u64) -> Case {
     Case::new(&[address.into(), port, mainnet], &[])
 }
@@ -75,7 +89,7 @@ pub fn v4() -> Vec<Kind> {
         // Each /24 on each network: no range of IPv4 but 0.0.0.0 ends within one.
         Kind::every("each /24", 1 << 25, |i, case| {
             let last = i.wrapping_mul(0x9e37_79b9_7f4a_7c15) >> 56;
-            case.words = [(i >> 1) << 8 | last, 9030, i & 1, 0];
+            case.set(&[(i >> 1) << 8 | last, 9030, i & 1], &[]);
         }),
         Kind::random("boundary", 1_000_000, move |rng, visit| {
             let flipped = rng.pick(&near) ^ 1 << rng.below(32);

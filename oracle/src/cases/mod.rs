@@ -1,9 +1,15 @@
 //! Cases for each group of functions.
 
 pub mod addresses;
+pub mod entries;
+pub mod fields;
+pub mod frames;
 pub mod hashes;
+pub mod messages;
 pub mod numbers;
 pub mod parts;
+pub mod sessions;
+pub mod tables;
 pub mod text;
 pub mod writers;
 

@@ -119,7 +119,7 @@ pub fn short_string() -> Vec<Kind> {
 }
 
 /// A short string, at times with other bytes in it than UTF-8, at times with another length.
-fn short_string_bytes(rng: &mut Rng, bytes: &mut Vec<u8>) {
+pub fn short_string_bytes(rng: &mut Rng, bytes: &mut Vec<u8>) {
     let start = bytes.len();
     bytes.push(0);
     string(rng, bytes);

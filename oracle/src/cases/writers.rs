@@ -101,7 +101,7 @@ pub fn part() -> Vec<Kind> {
 
 /// A place and the length of an output, for a writing of some length: longer than needed, just
 /// long enough, too short by one or more, or with the place outside.
-fn output(rng: &mut Rng, length: u64) -> [u64; 2] {
+pub fn output(rng: &mut Rng, length: u64) -> [u64; 2] {
     let place = rng.below(12);
     let end = place + length;
     match rng.below(8) {

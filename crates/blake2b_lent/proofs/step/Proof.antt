@@ -26,7 +26,7 @@ use denote.Array.{Array}
 use denote.Laws.{Is, shows}
 use denote.Memory.{mem}
 use denote.Builtin.{u8, ArrayOf}
-use denote.Ref.{RefT, MutRef, ShrRef, now, ptr-vals, mut-tells, shr-tells, shr-lawful, shr-copy}
+use denote.Ref.{RefT, MutRef, ShrRef, now, ptr-vals, mut-tells, shr-tells, shr-copy}
 use denote.Signature.{Slot, plain}
 use denote.Steps.{opens, closes, peeks, heard, nothing}
 use denote.Struct.Laws as LL

@@ -1,7 +1,6 @@
 -- `frame_write::ask_frame` meets its contract: each answer is the definition's, by the tests that led to it.
 use Prim.Native.Nat.{_+_}
 use native.Mathlib.Omega.{arith}
-use mathlib.Core.Path.{sym}
 use borrow.Author.Needs.{needs}
 use borrow.Author.Tests.{le-leb, lt-leb}
 use Rattle.wire.specs.Output.{asked}

@@ -1,8 +1,6 @@
 -- `frame_write::big_endian` meets its contract: the four bytes are the definition's.
 use native.Mathlib.Omega.{arith}
-use mathlib.Core.Path.{ap}
 use borrow.Author.Needs.{needs}
-use Rattle.wire.specs.Bytes.{bigEndianBytes}
 use Rattle.frame_write.proofs.BigEndian.{four-bytes}
 use Rattle.frame_write.proofs.big_endian.Statement.{statement}
 use Rattle.frame_write.proofs.big_endian.Tie as tie

@@ -1,7 +1,7 @@
 -- `frame_write::put_head` meets its contract: the magic was stored, the code, and then the body length.
 use native.Mathlib.Omega.{arith}
 use mathlib.Core.Path.{_∙_}
-use lib.ListN.{length, length-set}
+use lib.ListN.{length-set}
 use borrow.Author.Needs.{needs}
 use Rattle.wire.specs.OutputLaws.{wrote-length}
 use Rattle.frame_write.proofs.Stores.{head-stored}

@@ -1,7 +1,6 @@
 -- `messages_write::ids_inside` meets its contract: the rows before i are inside the buffer.
 use Prim.Native.Nat.{_+_, _-_}
 use native.Mathlib.Omega.{arith}
-use mathlib.Core.Bool.{true, false}
 use lib.Dec.{leb}
 use lib.ListN.{length, getD}
 use borrow.Author.Needs.{needs}

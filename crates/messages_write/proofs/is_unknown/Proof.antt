@@ -1,5 +1,4 @@
 -- `messages_write::is_unknown` meets its contract, arm by arm.
-use native.Mathlib.Omega.{arith}
 use Rattle.messages_write.proofs.Codes.{peers-known, others-known, zero-unknown, rest-unknown}
 use Rattle.messages_write.proofs.is_unknown.Statement.{statement}
 use Rattle.messages_write.proofs.is_unknown.Tie as tie

@@ -1,7 +1,6 @@
 -- `messages_write::write_unknown` meets its contract: the questions were answered by sizes, and the frame was stored once all held.
 use mathlib.Core.Path.{_∙_}
 use denote.Ref.{now}
-use lib.ListN.{length}
 use borrow.Author.Needs.{needs}
 use Rattle.frame_write.specs.FrameWriteLaws.{after-refused}
 use Rattle.messages.specs.Value.{codeOf, bodyBytes}

@@ -1,6 +1,5 @@
 -- `response_write::payload_inside` meets its contract, by the tests that led to each answer.
 use Prim.Native.Nat.{_+_}
-use native.Mathlib.Omega.{arith}
 use borrow.Author.Needs.{needs}
 use borrow.Author.Tests.{le-leb, lt-leb}
 use Rattle.response_write.proofs.payload_inside.Statement.{statement}

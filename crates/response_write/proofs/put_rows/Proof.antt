@@ -1,8 +1,6 @@
 -- `response_write::put_rows` meets its contract: the rows before k were stored.
 use Prim.Native.Nat.{_-_, _/_}
 use native.Mathlib.Omega.{arith}
-use mathlib.Core.Path.{sym, ap, _∙_}
-use denote.Ref.{now}
 use lib.ListN.{length}
 use borrow.Author.Needs.{needs}
 use Rattle.messages.specs.Value.{payloadBytes}

@@ -1,8 +1,7 @@
 -- `response_write::rows_len` meets its contract: the lengths of the rows before k were added.
 use Prim.Native.Nat.{_-_, _/_}
 use native.Mathlib.Omega.{arith}
-use mathlib.Core.Path.{sym, ap, _∙_}
-use denote.Ref.{now}
+use mathlib.Core.Path.{ap, _∙_}
 use lib.ListN.{length}
 use borrow.Author.Needs.{needs}
 use Rattle.messages.specs.Writes.{payloadRow}

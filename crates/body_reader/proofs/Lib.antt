@@ -1,0 +1,2 @@
+pub mod ReadWalk
+pub mod ReadCall

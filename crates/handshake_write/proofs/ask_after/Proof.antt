@@ -1,0 +1,24 @@
+-- `handshake_write::ask_after` meets its contract: one arm for each answer.
+use borrow.Author.Needs.{needs}
+use Rattle.handshake_write.specs.Parts.{longer}
+use Rattle.handshake_write.proofs.ask_after.Statement.{statement}
+use Rattle.handshake_write.proofs.ask_after.Tie as tie
+
+returns : tie.Need-returns
+unfolding longer
+returns c = rw (c .before .before .said .given .1) (c .ask-both .ensures)
+
+returns-2 : tie.Need-returns-2
+unfolding longer
+returns-2 c = rw (c .before .before .said2 .given .1) (c .ask-place .ensures)
+
+pub ask-after-spec : {M : Type 1} → statement M
+ask-after-spec =
+    tie.close
+    (tie.spec
+    (λ c. search needs)
+    (λ c κs. search needs)
+    (λ c. search needs)
+    (λ c κs. search needs)
+    returns
+    returns-2)

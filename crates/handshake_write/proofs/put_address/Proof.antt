@@ -1,0 +1,66 @@
+-- `handshake_write::put_address` meets its contract: one arm for each kind of address.
+use native.Mathlib.Omega.{arith}
+use mathlib.Core.List.{[], _∷_}
+use mathlib.Core.Path.{ap, _∙_}
+use lib.ListN.{length}
+use borrow.Author.Needs.{needs}
+use Rattle.wire.specs.OutputLaws.{wrote-length}
+use Rattle.types.specs.declared.Address.{Address}
+use Rattle.handshake.specs.Value.{addressBytes}
+use Rattle.handshake_write.specs.PartsLaws.{wrote-end, length-v4, length-v6}
+use Rattle.handshake_write.proofs.put_address.Statement.{statement}
+use Rattle.handshake_write.proofs.put_address.Tie as tie
+
+put-v4-requires : tie.Need-put-v4-requires
+put-v4-requires c κs =
+    let e = ap (λ (x : Address). length (addressBytes x)) (c .before .before .address .given .1) ∙ length-v4 (c .before .before .address .given .0 .0) (c .before .before .address .given .0 .1 .0) in
+    omega (arith, e, c .before .before .before .before .before .pre)
+
+put-v6-requires : tie.Need-put-v6-requires
+put-v6-requires c κs =
+    let e = ap (λ (x : Address). length (addressBytes x)) (c .before .before .address2 .given .1) ∙ length-v6 (c .before .before .address2 .given .0 .0) (c .before .before .address2 .given .0 .1 .0) (c .before .before .address2 .given .0 .1 .1 .0) in
+    omega (arith, e, c .before .before .before .before .before .pre)
+
+same-length : tie.Need-same-length
+unfolding addressBytes
+same-length c =
+    let w = wrote-end [] [] _ _ (0 ∷ []) (c .before .before .before .write-byte .ensures .0) (c .before .before .before .write-byte .ensures .1) (c .end-of .ensures) tt tt (rw (c .before .before .before .before .before .enum-told .given .1) at (c .before .before .before .before .before .before .before .before .pre)) in
+    wrote-length w
+
+returns : tie.Need-returns
+unfolding addressBytes
+returns c =
+    let w = wrote-end [] [] _ _ (0 ∷ []) (c .before .before .before .write-byte .ensures .0) (c .before .before .before .write-byte .ensures .1) (c .end-of .ensures) tt tt (rw (c .before .before .before .before .before .enum-told .given .1) at (c .before .before .before .before .before .before .before .before .pre)) in
+    rw (c .before .before .before .before .before .enum-told .given .1) w
+
+same-length-2 : tie.Need-same-length-2
+same-length-2 c = wrote-length (c .before .before .put-v4 .ensures)
+
+returns-2 : tie.Need-returns-2
+unfolding addressBytes
+returns-2 c = rw (c .before .before .before .before .before .address .given .1) (c .before .before .put-v4 .ensures)
+
+same-length-3 : tie.Need-same-length-3
+same-length-3 c = wrote-length (c .before .before .put-v6 .ensures)
+
+returns-3 : tie.Need-returns-3
+unfolding addressBytes
+returns-3 c = rw (c .before .before .before .before .before .address2 .given .1) (c .before .before .put-v6 .ensures)
+
+pub put-address-spec : {M : Type 1} → statement M
+put-address-spec =
+    tie.close
+    (tie.spec
+    (λ c. search needs)
+    (λ c κs. search needs)
+    (λ c κs. search needs)
+    (λ c. search needs)
+    put-v4-requires
+    (λ c. search needs)
+    put-v6-requires
+    same-length
+    returns
+    same-length-2
+    returns-2
+    same-length-3
+    returns-3)

@@ -1,0 +1,51 @@
+-- `handshake_write::put_session` meets its contract: the id byte, the VLQ of the body's length and the body.
+use Prim.Native.Nat.{_+_}
+use native.Mathlib.Omega.{arith}
+use mathlib.Core.List.{[]}
+use mathlib.Core.Path.{ap, _∙_}
+use lib.ListN.{length, length-set}
+use borrow.Author.Needs.{needs}
+use Rattle.wire.specs.OutputLaws.{wrote-then, wrote-byte, wrote-length}
+use Rattle.vlq.specs.Vlq.{vlqBytes}
+use Rattle.vlq.specs.VlqLaws.{vlq-last}
+use Rattle.handshake_write.specs.PartsLaws.{wrote-end}
+use Rattle.handshake_write.proofs.put_session.Statement.{statement}
+use Rattle.handshake_write.proofs.put_session.Tie as tie
+
+put-session-body-requires : tie.Need-put-session-body-requires
+put-session-body-requires c κs =
+    let a = c .before .before .before .before .before .before .before .before .args in
+    let n = c .before .before .before .before .before .session-len .ensures in
+    let one = ap length (vlq-last (c .before .before .before .before .before .session-len .result) (omega (arith, n .1))) in
+    let w = wrote-end [] [] _ (a .at + 1) (vlqBytes (c .before .before .before .before .before .session-len .result)) (c .before .before .before .before .write-vlq .ensures .0) (c .before .before .before .before .write-vlq .ensures .1) (c .before .end-of .ensures) tt tt (simp length-set (omega (arith, one))) in
+    omega (arith, one, w .end, simp length-set at (wrote-length w))
+
+same-length : tie.Need-same-length
+same-length c =
+    let a = c .before .before .before .before .before .before .before .before .before .before .before .args in
+    let n = c .before .before .before .before .before .before .before .before .session-len .ensures in
+    let one = ap length (vlq-last (c .before .before .before .before .before .before .before .before .session-len .result) (omega (arith, n .1))) in
+    let w = wrote-end [] [] _ (a .at + 1) (vlqBytes (c .before .before .before .before .before .before .before .before .session-len .result)) (c .before .before .before .before .before .before .before .write-vlq .ensures .0) (c .before .before .before .before .before .before .before .write-vlq .ensures .1) (c .before .before .before .before .end-of .ensures) tt tt (simp length-set (omega (arith, one))) in
+    wrote-length (c .before .before .put-session-body .ensures) ∙ wrote-length w ∙ simp length-set
+
+returns : tie.Need-returns
+returns c =
+    let a = c .before .before .before .before .before .before .before .before .before .before .before .args in
+    let n = c .before .before .before .before .before .before .before .before .session-len .ensures in
+    let one = ap length (vlq-last (c .before .before .before .before .before .before .before .before .session-len .result) (omega (arith, n .1))) in
+    let w = wrote-end [] [] _ (a .at + 1) (vlqBytes (c .before .before .before .before .before .before .before .before .session-len .result)) (c .before .before .before .before .before .before .before .write-vlq .ensures .0) (c .before .before .before .before .before .before .before .write-vlq .ensures .1) (c .before .before .before .before .end-of .ensures) tt tt (simp length-set (omega (arith, one))) in
+    let v = c .before .before .put-session-body .ensures in
+    wrote-then (wrote-byte (a .out .now) (a .at) 3) (wrote-then (rw (n .0) at w) v)
+
+pub put-session-spec : {M : Type 1} → statement M
+put-session-spec =
+    tie.close
+    (tie.spec
+    (λ c. search needs)
+    (λ c. search needs)
+    (λ c κs. search needs)
+    (λ c κs. search needs)
+    (λ c κs. search needs)
+    put-session-body-requires
+    same-length
+    returns)

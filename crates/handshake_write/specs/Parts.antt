@@ -1,0 +1,66 @@
+-- The parts that the writers of handshakes are put together from: what is said of a timestamp before an entry, and the pieces of `build`.
+use Prim.Native.Nat.{ℕ, _+_, _≤_}
+use mathlib.Core.Bool.{true, cond}
+use mathlib.Core.List.{List, [], _∷_, _++_}
+use mathlib.Core.Path.{_≡_}
+use lib.ListN.{length}
+use Rattle.wire.specs.declared.Written.{Written}
+use Rattle.wire.specs.declared.Written.the-variants.{To, Refused}
+use Rattle.utf8.specs.Utf8.{utf8}
+use Rattle.vlq.specs.Vlq.{vlqBytes}
+use Rattle.vlq.specs.ShortString.{shortStringBytes}
+use Rattle.vlq_write.specs.Asked.{writtenFor}
+use Rattle.zigzag.specs.Zigzag.{zigzagEncode}
+use Rattle.types.specs.Magic.{magicOf}
+use Rattle.handshake.specs.Value.{versionBytes, handshakeBytes, entriesAsked}
+use Rattle.handshake.specs.Writes.{nipopow, built}
+use Rattle.handshake.specs.Writes as writes
+use Rattle.handshake_write.specs.declared.Config.{Config}
+
+-- what is said of v bytes before a value
+unfoldable pub longer : ℕ → Written → Written
+longer v (To n) = To (v + n)
+longer v (Refused m) = Refused m
+
+unfoldable pub endOf : Written → ℕ
+endOf (To e) = e
+endOf (Refused m) = 0
+
+-- what `build` is given, as its definition has it
+abbrev pub configOf : Config → List ℕ → List ℕ → writes.Config
+configOf c agent name =
+    record {
+      network = c .network;
+      mode = c .mode;
+      stateType = c .statetype;
+      verifying = c .verifying;
+      blocksToKeep = c .blocks;
+      agent = agent;
+      version = c .version;
+      name = name;
+      address = c .address;
+      timestamp = c .timestamp;
+      sessionId = c .session;
+    }
+
+-- what `build` says of an output of len bytes
+unfoldable pub builtSaid : ℕ → ℕ → writes.Config → Written
+builtSaid len at c = writtenFor [] (entriesAsked (built c .entry ∷ [])) len at (length (handshakeBytes (built c)))
+
+-- agent and name that are accepted
+pub record BuildReady (agent name : List ℕ) : Type 0 where
+  pub shortagent : length agent ≤ 255
+  pub shortname : length name ≤ 255
+  pub utfagent : utf8 agent ≡ true
+  pub utfname : utf8 name ≡ true
+
+-- timestamp, agent, version and name
+unfoldable pub headBytes : Config → List ℕ → List ℕ → List ℕ
+headBytes c agent name = vlqBytes (c .timestamp) ++ (shortStringBytes agent ++ (versionBytes (c .version) ++ shortStringBytes name))
+
+-- the bodies of the two features
+unfoldable pub modeBody : Config → List ℕ
+modeBody c = c .statetype ∷ (cond (c .verifying) 1 0 ∷ (nipopow (c .mode) ++ vlqBytes (zigzagEncode (c .blocks))))
+
+unfoldable pub sessionBody : Config → List ℕ
+sessionBody c = magicOf (c .network) ++ vlqBytes (zigzagEncode (c .session))

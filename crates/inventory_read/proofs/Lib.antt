@@ -1,0 +1,2 @@
+pub mod PayloadsLoop
+pub mod AnswerLaws

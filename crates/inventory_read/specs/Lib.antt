@@ -1,0 +1,5 @@
+pub mod Parts
+pub mod Answers
+pub mod ListOfLaws
+pub mod LoopLaws
+pub mod PartsLaws

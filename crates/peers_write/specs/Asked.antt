@@ -1,0 +1,40 @@
+-- What the writer of Peers says of an output of len bytes, by sizes, once it is known what is said of the entries.
+use Prim.Native.Nat.{ℕ, _+_}
+use mathlib.Core.Bool.{true, cond}
+use mathlib.Core.List.{List, [], _∷_}
+use mathlib.Core.Path.{_≡_}
+use lib.Dec.{eqb, leb}
+use lib.ListN.{length}
+use Rattle.wire.specs.Bytes.{every}
+use Rattle.wire.specs.Output.{ask, asked}
+use Rattle.wire.specs.OutputLaws.{AllHold}
+use Rattle.wire.specs.declared.Written.{Written}
+use Rattle.wire.specs.declared.Written.the-variants.{To, Refused}
+use Rattle.vlq.specs.Vlq.{limit, vlqBytes}
+use Rattle.vlq_write.specs.Asked.{writtenFor}
+use Rattle.frame_write.specs.Asked.{frameLength}
+use Rattle.handshake.specs.Value.{entriesAsked}
+use Rattle.handshake.specs.Tables.{Lent, entryRows, entriesOf, tablesWhole, entryInside}
+use Rattle.messages.specs.Value.{peersValue, bodyBytes}
+
+-- the entries of a table, as a body
+abbrev pub peersBytes : Lent → List ℕ
+peersBytes l = bodyBytes (peersValue (entriesOf l))
+
+-- what is said of count entries that are written as n bytes
+unfoldable pub countSaid : ℕ → ℕ → ℕ → ℕ → ℕ → Written
+countSaid cap count len at n =
+    writtenFor []
+    (ask 10 (leb count cap) ∷ ask 7 (leb (length (vlqBytes count) + n) limit) ∷ [])
+    len at (frameLength (length (vlqBytes count) + n))
+
+-- 16 is asked before the place, everything else after it
+unfoldable pub peersSaid : ℕ → ℕ → ℕ → ℕ → Written → Written
+peersSaid cap count len at (To n) = countSaid cap count len at n
+peersSaid cap count len at (Refused m) = cond (eqb m 16) (Refused 16) (cond (leb at len) (Refused m) (Refused 12))
+
+-- every question about the entries of a table is answered "yes"
+pub record Writable (l : Lent) : Type 0 where
+  pub whole : tablesWhole l ≡ true
+  pub inside : every (entryInside l) (entryRows l) ≡ true
+  pub asked : AllHold (entriesAsked (entriesOf l))

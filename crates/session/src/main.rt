@@ -1,0 +1,34 @@
+// Reads a session of mainnet from standard input and prints its report, a line for each step (document 01, "At the edges").
+// More than 65,536 bytes are `long`.
+ghost use Prim.Native.Nat.{_≤_};
+ghost use lib.ListN.{length};
+use libc::STDIN_FILENO;
+use libc::STDOUT_FILENO;
+use types::Network;
+use types::StreamPlace;
+
+const MOST: usize = 65536;
+
+const CAP: usize = 64;
+
+fn main() {
+    let mut session = [0u8; 65537];
+    let n = io::read_full(STDIN_FILENO, &mut session);
+    if MOST < n {
+        io::write_all(STDOUT_FILENO, b"long\n");
+        return;
+    }
+    print_report(&session[..n]);
+}
+
+fn print_report(s: &[u8]) {
+    let mut at = 0;
+    let mut more = true;
+    while more {
+        let mut line = [0u8; 192];
+        let next = report::next_line(&mut line, s, Network::Mainnet, CAP, StreamPlace(at));
+        io::write_all(STDOUT_FILENO, &line[..next.len]);
+        at = next.at.0;
+        more = next.more;
+    }
+}

@@ -1,0 +1,165 @@
+//! Cases for sessions: a handshake and messages of every kind, whole, cut at each byte and damaged.
+
+use super::fields::{handshake, Wrong, NEVER};
+use super::frames::bytes_of;
+use super::messages::any_message;
+use crate::case::{unhex, Case};
+use crate::kinds::{brief, damage, networks, places, short, with, Kind};
+use crate::rng::Rng;
+use p2p::types::Network;
+
+/// Document 01's session of 20 bytes: the handshake and GetPeers.
+const DOCUMENTED: &str = "ac02026162060001000000010002040100000000";
+
+const RARELY: Wrong = Wrong(400);
+
+/// Whole sessions: network and cap before the bytes.
+pub fn sessions(count: u64) -> Vec<Kind> {
+    vec![
+        Kind::edges(edges()),
+        networks(with(short(2), 1, |_| [64]), 0),
+        Kind::random("boundary", count / 4, |rng, visit| visit(&session(rng, 21, RARELY).0)),
+        Kind::random("damaged", count, |rng, visit| {
+            let (case, _) = brief(rng, |rng| session(rng, 4, NEVER), |(case, _)| case);
+            damage(rng, &case, 0..case.bytes.len(), visit);
+        }),
+        // Cut at the end of an item and around the header of the next, on both networks.
+        Kind::random("cuts", count, |rng, visit| {
+            let (case, ends) = session(rng, 6, NEVER);
+            let [mainnet, cap] = [case.word(0) ^ rng.below(2), case.word(1)];
+            let cuts = ends.iter().flat_map(|end| [end - 1, *end, end + 4, end + 8, end + 9]);
+            for cut in cuts.map(|cut| cut.min(case.bytes.len())) {
+                visit(&Case::new(&[mainnet, cap], &case.bytes[..cut]));
+            }
+        }),
+    ]
+}
+
+/// Steps: place, network and cap before the bytes.
+pub fn steps(count: u64) -> Vec<Kind> {
+    let edges = edges().into_iter().flat_map(|case| {
+        let places = [0, 11, 12, case.bytes.len() as u64, case.bytes.len() as u64 + 1, u64::MAX];
+        places.map(|place| placed(&case, place))
+    });
+    vec![
+        Kind::edges(edges.collect()),
+        networks(with(short(2), 2, |_| [64]), 1),
+        Kind::random("items", count, |rng, visit| {
+            let (case, ends) = session(rng, 12, RARELY);
+            for start in [0].iter().chain(&ends) {
+                visit(&placed(&case, *start as u64));
+            }
+        }),
+        Kind::random("damaged", count, |rng, visit| {
+            let (case, ends) = brief(rng, |rng| session(rng, 4, NEVER), |(case, _)| case);
+            let start = rng.pick(&[&[0][..], &ends].concat());
+            damage(rng, &placed(&case, start as u64), start..case.bytes.len(), visit);
+        }),
+        Kind::random("places", count, |rng, visit| {
+            let (case, ends) = session(rng, 6, NEVER);
+            for place in places(rng, case.bytes.len() as u64) {
+                visit(&placed(&case, place));
+            }
+            let near = rng.pick(&ends) as u64 + rng.below(3);
+            visit(&placed(&case, near.saturating_sub(1)));
+        }),
+    ]
+}
+
+/// A session's case with a place before its network and cap.
+fn placed(session: &Case, place: u64) -> Case {
+    Case::new(&[place, session.word(0), session.word(1)], &session.bytes)
+}
+
+/// Document 01's session cut at each byte, on both networks, with other caps and bytes after it.
+fn edges() -> Vec<Case> {
+    let bytes = unhex(DOCUMENTED).expect("hex");
+    let mut edges = vec![Case::new(&[1, 64], &[&bytes[..], &[7]].concat())];
+    for cut in 0..=bytes.len() {
+        edges.extend([0, 1].map(|mainnet| Case::new(&[mainnet, 64], &bytes[..cut])));
+    }
+    let bodies: [(u8, &[u8]); 12] = [
+        (2, &[0]),
+        (2, &[1, 0, 4, 0, 100, 0, 1, 8, 10, 0, 0, 1, 9, 0]),
+        (2, &[2]),
+        (2, &[65]),
+        (22, &[2, 0]),
+        (33, &[2, 0]),
+        (33, &[2, 1]),
+        (55, &[2]),
+        (55, &[2, 0x91, 0x03]),
+        (65, &[1, 2, 3]),
+        (3, &[]),
+        (255, &[0xff]),
+    ];
+    for (code, body) in bodies {
+        let session =
+            [&bytes[..11], &bytes_of(Network::Mainnet, code, body), &bytes[11..]].concat();
+        edges.extend([Case::new(&[1, 64], &session), Case::new(&[255, 0], &session)]);
+    }
+    edges
+}
+
+/// A handshake and fewer than `most` messages, and the end of each item.
+fn session(rng: &mut Rng, most: u64, wrong: Wrong) -> (Case, Vec<usize>) {
+    let (mainnet, network) = rng.pick(&[(0, Network::Testnet), (1, Network::Mainnet)]);
+    let cap = rng.pick(&[64, 64, 64, 3, 0]);
+    let mut case = Case::new(&[mainnet, cap], &[]);
+    handshake(rng, &mut case.bytes, wrong);
+    let mut ends = vec![case.bytes.len()];
+    for _ in 0..rng.below(most) {
+        let message = any_message(rng, wrong);
+        let code = message.word(2) as u8;
+        case.bytes.extend(bytes_of(network, code, &message.bytes));
+        ends.push(case.bytes.len());
+    }
+    (case, ends)
+}
+
+#[cfg(test)]
+mod tests {
+    use super::*;
+    use crate::rust::sessions::{step, walk};
+    use std::collections::BTreeSet;
+
+    /// How the cases of steps end, layer and number.
+    fn stops() -> BTreeSet<String> {
+        let mut stops = BTreeSet::new();
+        for (i, kind) in steps(100_000).iter().enumerate() {
+            kind.visit(&mut Rng::new(1, 0, i), 1.0, &mut |case| {
+                let answer = step(&case.bytes, case.word(0), case.word(1) as u8, case.word(2));
+                let text = answer.answer().to_string();
+                if let Some((stop, _)) = text.rsplit_once(' ').filter(|_| text.starts_with("stop"))
+                {
+                    stops.insert(stop.to_string());
+                }
+            });
+        }
+        stops
+    }
+
+    #[test]
+    fn steps_stop_with_each_number_of_each_layer() {
+        let numbers: [(&str, &[u8]); 3] = [
+            ("handshake", &[1, 2, 3, 4]),
+            ("frame", &[5, 6, 7, 8, 9]),
+            ("body", &[1, 2, 3, 4, 10, 11]),
+        ];
+        let all = numbers.iter().flat_map(|(layer, numbers)| {
+            numbers.iter().map(move |number| format!("stop {layer} {number}"))
+        });
+        assert_eq!(stops(), all.collect());
+    }
+
+    #[test]
+    fn whole_sessions_end_cleanly() {
+        let mut rng = Rng::new(1, 0, 0);
+        let mut clean = 0;
+        for _ in 0..500 {
+            let (case, _) = session(&mut rng, 21, NEVER);
+            let text = walk(&case.bytes, case.word(0) as u8, 1000).answer().to_string();
+            clean += text.ends_with(" end") as u64;
+        }
+        assert_eq!(clean, 500);
+    }
+}

@@ -1,0 +1,122 @@
+//! Writers of entries and whole frames.
+
+use super::Function;
+use crate::answer::Answer;
+use crate::case::Case;
+use crate::cases::tables::{self, out, Writer};
+use crate::kinds::Kind;
+use crate::{ours, rust};
+
+pub fn rows() -> Vec<Function> {
+    vec![
+        writer(
+            35,
+            "write_entry",
+            &["place", "room", "row"],
+            &[3, 4, 12, 13, 14, 15, 16],
+            |c| rust::writers::write_entry(out(c), None, c.word(2), &c.bytes),
+            ours::writers::write_entry,
+            tables::entries,
+        ),
+        writer(
+            38,
+            "encode",
+            &["place", "room", "mainnet", "code"],
+            &[7, 12, 14],
+            |c| rust::writers::encode(out(c), c.word(2) as u8, c.word(3) as u8, &c.bytes),
+            ours::writers::encode,
+            tables::bodies,
+        ),
+        writer(
+            39,
+            "write_get_peers",
+            &["place", "room", "mainnet"],
+            &[12, 14],
+            |c| rust::writers::write_get_peers(out(c), c.word(2) as u8),
+            ours::writers::write_get_peers,
+            tables::bodies,
+        ),
+        writer(
+            40,
+            "write_peers",
+            &["place", "room", "mainnet", "cap"],
+            &[3, 4, 7, 10, 12, 13, 14, 15, 16],
+            |c| rust::writers::write_peers(out(c), c.word(2) as u8, c.word(3), &c.bytes),
+            ours::writers::write_peers,
+            tables::peers,
+        ),
+        writer(
+            41,
+            "write_modifier_request",
+            &["place", "room", "mainnet", "type"],
+            &[10, 12, 14],
+            |c| {
+                rust::writers::write_modifier_request(
+                    out(c),
+                    c.word(2) as u8,
+                    c.word(3) as u8,
+                    &c.bytes,
+                )
+            },
+            ours::writers::write_modifier_request,
+            tables::ids,
+        ),
+        writer(
+            42,
+            "write_modifier_response",
+            &["place", "room", "mainnet", "type"],
+            &[3, 7, 10, 12, 14, 16],
+            |c| {
+                rust::writers::write_modifier_response(
+                    out(c),
+                    c.word(2) as u8,
+                    c.word(3) as u8,
+                    &c.bytes,
+                )
+            },
+            ours::writers::write_modifier_response,
+            tables::payloads,
+        ),
+        writer(
+            43,
+            "write_inv",
+            &["place", "room", "mainnet", "type"],
+            &[10, 12, 14],
+            |c| rust::writers::write_inv(out(c), c.word(2) as u8, c.word(3) as u8, &c.bytes),
+            ours::writers::write_inv,
+            tables::ids,
+        ),
+        writer(
+            44,
+            "write_sync_info",
+            &["place", "room", "mainnet"],
+            &[7, 12, 14],
+            |c| rust::writers::write_sync_info(out(c), c.word(2) as u8, &c.bytes),
+            ours::writers::write_sync_info,
+            tables::bodies,
+        ),
+        writer(
+            45,
+            "write_unknown",
+            &["place", "room", "mainnet", "code"],
+            &[7, 12, 14, 15],
+            |c| rust::writers::write_unknown(out(c), c.word(2) as u8, c.word(3) as u8, &c.bytes),
+            ours::writers::write_unknown,
+            tables::bodies,
+        ),
+    ]
+}
+
+/// A writer: the Rust refuses nothing.
+pub fn writer(
+    number: u8,
+    name: &'static str,
+    words: &'static [&'static str],
+    untold: &'static [u8],
+    expected: Writer,
+    ours: fn(&Case) -> Answer,
+    kinds: fn(u64, Writer) -> Vec<Kind>,
+) -> Function {
+    let kinds = kinds(1_000_000, expected);
+    Function { number, name, words, told: &[], untold, expected, ours, kinds }
+}

@@ -1,0 +1,238 @@
+//! Our writers of entries and whole frames.
+
+use super::write;
+use crate::answer::Answer;
+use crate::case::{tables, Case};
+
+extern "C" {
+    fn haspeljo_write_entry(
+        out: *mut u8,
+        n: usize,
+        at: usize,
+        entries: *const u32,
+        entries_n: usize,
+        features: *const u32,
+        features_n: usize,
+        buffer: *const u8,
+        buffer_n: usize,
+        row: usize,
+        r: *mut [u64; 1],
+    ) -> u8;
+    fn haspeljo_write_peers(
+        out: *mut u8,
+        n: usize,
+        at: usize,
+        mainnet: u8,
+        cap: usize,
+        entries: *const u32,
+        entries_n: usize,
+        features: *const u32,
+        features_n: usize,
+        buffer: *const u8,
+        buffer_n: usize,
+        r: *mut [u64; 1],
+    ) -> u8;
+    fn haspeljo_write_get_peers(
+        out: *mut u8,
+        n: usize,
+        at: usize,
+        mainnet: u8,
+        r: *mut [u64; 1],
+    ) -> u8;
+    fn haspeljo_write_modifier_request(
+        out: *mut u8,
+        n: usize,
+        at: usize,
+        mainnet: u8,
+        kind: u8,
+        ids: *const u32,
+        ids_n: usize,
+        buffer: *const u8,
+        buffer_n: usize,
+        r: *mut [u64; 1],
+    ) -> u8;
+    fn haspeljo_write_modifier_response(
+        out: *mut u8,
+        n: usize,
+        at: usize,
+        mainnet: u8,
+        kind: u8,
+        payloads: *const u32,
+        payloads_n: usize,
+        buffer: *const u8,
+        buffer_n: usize,
+        r: *mut [u64; 1],
+    ) -> u8;
+    fn haspeljo_write_inv(
+        out: *mut u8,
+        n: usize,
+        at: usize,
+        mainnet: u8,
+        kind: u8,
+        ids: *const u32,
+        ids_n: usize,
+        buffer: *const u8,
+        buffer_n: usize,
+        r: *mut [u64; 1],
+    ) -> u8;
+    fn haspeljo_write_sync_info(
+        out: *mut u8,
+        n: usize,
+        at: usize,
+        mainnet: u8,
+        body: *const u8,
+        body_n: usize,
+        r: *mut [u64; 1],
+    ) -> u8;
+    fn haspeljo_write_unknown(
+        out: *mut u8,
+        n: usize,
+        at: usize,
+        mainnet: u8,
+        code: u8,
+        body: *const u8,
+        body_n: usize,
+        r: *mut [u64; 1],
+    ) -> u8;
+    fn haspeljo_encode(
+        out: *mut u8,
+        n: usize,
+        at: usize,
+        mainnet: u8,
+        code: u8,
+        body: *const u8,
+        body_n: usize,
+        r: *mut [u64; 1],
+    ) -> u8;
+}
+
+// SAFETY, of every call below: as in the module above; a table passes as a pointer and its length.
+
+/// The place and the length of a case's output.
+pub fn output(case: &Case) -> [usize; 2] {
+    [case.place(0), case.place(1)]
+}
+
+pub fn write_entry(case: &Case) -> Answer {
+    let [at, room] = output(case);
+    let ([entries, features], buffer) = tables::<2>(&case.bytes);
+    write(room, at, |out, r| unsafe {
+        haspeljo_write_entry(
+            out.as_mut_ptr(),
+            out.len(),
+            at,
+            entries.as_ptr(),
+            entries.len(),
+            features.as_ptr(),
+            features.len(),
+            buffer.as_ptr(),
+            buffer.len(),
+            case.place(2),
+            r,
+        )
+    })
+}
+
+pub fn write_peers(case: &Case) -> Answer {
+    let [at, room] = output(case);
+    let ([entries, features], buffer) = tables::<2>(&case.bytes);
+    write(room, at, |out, r| unsafe {
+        haspeljo_write_peers(
+            out.as_mut_ptr(),
+            out.len(),
+            at,
+            case.word(2) as u8,
+            case.place(3),
+            entries.as_ptr(),
+            entries.len(),
+            features.as_ptr(),
+            features.len(),
+            buffer.as_ptr(),
+            buffer.len(),
+            r,
+        )
+    })
+}
+
+/// A writer of one table: output, network, type byte, table, buffer, result.
+type OneTable = unsafe extern "C" fn(
+    *mut u8,
+    usize,
+    usize,
+    u8,
+    u8,
+    *const u32,
+    usize,
+    *const u8,
+    usize,
+    *mut [u64; 1],
+) -> u8;
+
+fn one_table(case: &Case, writer: OneTable) -> Answer {
+    let [at, room] = output(case);
+    let ([table], buffer) = tables::<1>(&case.bytes);
+    write(room, at, |out, r| unsafe {
+        writer(
+            out.as_mut_ptr(),
+            out.len(),
+            at,
+            case.word(2) as u8,
+            case.word(3) as u8,
+            table.as_ptr(),
+            table.len(),
+            buffer.as_ptr(),
+            buffer.len(),
+            r,
+        )
+    })
+}
+
+pub fn write_modifier_request(case: &Case) -> Answer {
+    one_table(case, haspeljo_write_modifier_request)
+}
+
+pub fn write_modifier_response(case: &Case) -> Answer {
+    one_table(case, haspeljo_write_modifier_response)
+}
+
+pub fn write_inv(case: &Case) -> Answer {
+    one_table(case, haspeljo_write_inv)
+}
+
+pub fn write_get_peers(case: &Case) -> Answer {
+    let [at, room] = output(case);
+    write(room, at, |out, r| unsafe {
+        haspeljo_write_get_peers(out.as_mut_ptr(), out.len(), at, case.word(2) as u8, r)
+    })
+}
+
+pub fn write_sync_info(case: &Case) -> Answer {
+    let [at, room] = output(case);
+    let body = &case.bytes;
+    write(room, at, |out, r| unsafe {
+        let mainnet = case.word(2) as u8;
+        let (start, length) = (body.as_ptr(), body.len());
+        haspeljo_write_sync_info(out.as_mut_ptr(), out.len(), at, mainnet, start, length, r)
+    })
+}
+
+/// A writer of a body as it is: output, network, code, body, result.
+type WholeBody =
+    unsafe extern "C" fn(*mut u8, usize, usize, u8, u8, *const u8, usize, *mut [u64; 1]) -> u8;
+
+fn whole_body(case: &Case, writer: WholeBody) -> Answer {
+    let [at, room] = output(case);
+    let [mainnet, code] = [case.word(2) as u8, case.word(3) as u8];
+    let body = &case.bytes;
+    write(room, at, |out, r| unsafe {
+        writer(out.as_mut_ptr(), out.len(), at, mainnet, code, body.as_ptr(), body.len(), r)
+    })
+}
+
+pub fn write_unknown(case: &Case) -> Answer {
+    whole_body(case, haspeljo_write_unknown)
+}
+
+pub fn encode(case: &Case) -> Answer {
+    whole_body(case, haspeljo_encode)
+}
