@@ -8,6 +8,7 @@ use lib.ListN.{length, take, drop, length-drop, List·getD-append}
 use lib.Pow.{pow-add}
 use lib.Seq.{drop-cons, drop-drop, getD-append-add}
 use Rattle.blake2b.specs.Blake2b.{_!_, word, bytes, words, unwords}
+use Rattle.blake2b.specs.CheckLaws.{length-bytes}
 
 -- a word of one byte
 pub word-one : (s : List ℕ) (at : ℕ) → at < length s → word (take 1 (drop at s)) ≡ s ! at
@@ -60,16 +61,6 @@ bytes-at (suc n) x (suc k) l =
     let e : 8 + 8 * k ≡ 8 * suc k = omega arith in
     bytes-at n (x / 2 ^ 8) k (omega arith)
     ∙ ap (λ (y : ℕ). y % 2 ^ 8) (div-div-eq-div-mul x (2 ^ 8) (2 ^ (8 * k)) ∙ ap (x /_) (sym (pow-add 2 8 (8 * k)) ∙ ap (2 ^_) e))
-
-length-bytes : (n x : ℕ) → length (bytes n x) ≡ n
-unfolding bytes
-length-bytes zero x = refl
-length-bytes (suc n) x = ap suc (length-bytes n (x / 2 ^ 8))
-
-pub length-unwords : (h : List ℕ) → length (unwords h) ≡ length h * 8
-unfolding bytes unwords
-length-unwords [] = refl
-length-unwords (x ∷ h) = omega (arith, length-unwords h)
 
 -- byte r of word q
 pub unwords-at : (h : List ℕ) (q r : ℕ) → q < length h → r < 8 → unwords h ! (q * 8 + r) ≡ bytes 8 (h ! q) ! r

@@ -22,8 +22,8 @@ use Rattle.handshake.specs.Value.{EntryValue, shortStrings, utf8Strings, fewFea
 use Rattle.handshake.specs.Tables.{Lent, featureRow, entryRow, entryRows, featureRows, ownRows, featureOf, entryOf, entriesOf, wholeRows, featureNumbers, entryNumbers, tablesWhole, featureInside, entryInside}
 use Rattle.handshake.specs.TablesLaws.{every-row}
 use Rattle.handshake.specs.Writes.{rowInside, rowAsked}
+use Rattle.handshake.specs.RowsLaws.{length-rows, every-rows}
 use Rattle.entry_ask.specs.Asked.{lent, featureHolds, rowHolds, numbersWhole, rowWhole, entrySaid, rowSaid, partsSaid, placed}
-use Rattle.entry_ask.specs.RowsLaws.{length-rows, every-rows}
 use Rattle.entry_ask.specs.declared.About.{About}
 use Rattle.entry_ask.specs.declared.About.the-variants.{Numbers, Inside, Short, Utf8, Count, Lengths}
 

@@ -1,23 +1,27 @@
 -- How many bytes an entry, its address and its features are written as; and the bytes of the buffer that a row names.
-use Prim.Native.Nat.{ℕ, _+_, _-_, _≤_, _<_, min}
+use Prim.Native.Nat.{ℕ, zero, suc, _+_, _-_, _≤_, _<_, min}
 use native.Mathlib.Omega.{arith}
+use mathlib.Core.Bool.{Bool, true, false, cond}
 use mathlib.Core.List.{List, [], _∷_, _++_, map, flatMap, append-assoc}
-use mathlib.Core.Logic.{⊎-elim}
-use mathlib.Core.Path.{_≡_, sym, ap, _∙_}
-use lib.ListN.{length, take, drop, length-append, length-take, length-drop, drop-of-length-le, length-map}
+use mathlib.Core.Logic.{_⊎_, inl, inr, ⊎-elim}
+use mathlib.Core.Path.{_≡_, refl, sym, ap, _∙_}
+use lib.Dec.{eqb}
+use lib.ListN.{length, getD, take, drop, length-append, length-take, length-drop, drop-of-length-le, length-map}
 use lib.Seq.{take-all, take-nil}
-use borrow.Author.Tests.{ne-eqb}
+use borrow.Author.Tests.{eq-eqb, ne-eqb}
 use Rattle.wire.specs.Bytes.{bigEndianBytes}
 use Rattle.wire.specs.BytesLaws.{length-bigEndianBytes}
 use Rattle.wire.specs.Numbers.{lt-or-ge}
 use Rattle.vlq.specs.Vlq.{vlqBytes}
 use Rattle.vlq.specs.ShortString.{shortStringBytes}
+use Rattle.types.specs.declared.Address.{Address}
+use Rattle.types.specs.declared.Address.the-variants.{None, V4, V6}
 use Rattle.handshake.specs.declared.FeatureRow.{FeatureRow}
 use Rattle.handshake.specs.declared.EntryRow.{EntryRow}
 use Rattle.handshake.specs.Entry.{addressOf}
-use Rattle.handshake.specs.Value.{featureBytes, versionBytes, addressBytes, entryBytes}
-use Rattle.handshake.specs.Tables.{Lent, featureRow, ownRows, bytesAt, featureOf, entryOf}
-use Rattle.entry_ask.specs.RowsLaws.{length-rows}
+use Rattle.handshake.specs.Value.{EntryValue, featureBytes, versionBytes, addressBytes, entryBytes}
+use Rattle.handshake.specs.Tables.{Lent, rows, featureRow, ownRows, bytesAt, featureOf, entryOf}
+use Rattle.handshake.specs.RowsLaws.{length-rows}
 
 -- agent, version and name
 unfoldable pub headBytes : List ℕ → EntryRow → List ℕ

@@ -1,13 +1,13 @@
 -- What a row's numbers say, its strings and its address, and stores one after the other.
-use Prim.Native.Nat.{ℕ, suc, _+_, _-_, _≤_, _<_}
+use Prim.Native.Nat.{ℕ, zero, suc, _+_, _-_, _≤_, _<_}
 use native.Mathlib.Omega.{arith}
-use mathlib.Core.Bool.{Bool, true, false, _||_}
+use mathlib.Core.Bool.{true, _||_}
 use mathlib.Core.List.{List, [], _∷_, _++_}
-use mathlib.Core.Logic.{_⊎_, inl, inr, ⊎-elim}
-use mathlib.Core.Path.{_≡_, refl, ap}
-use lib.Dec.{eqb, ltb, leb}
+use mathlib.Core.Logic.{⊎-elim}
+use mathlib.Core.Path.{_≡_, refl, sym, ap}
+use lib.Dec.{eqb, leb}
 use lib.ListN.{length, getD, drop, set, length-append}
-use borrow.Author.Tests.{ltb-true, lt-ltb, leb-true, eqb-true, ne-eqb}
+use borrow.Author.Tests.{ltb-true, lt-ltb, leb-true, ne-eqb}
 use Rattle.wire.specs.Bytes.{every}
 use Rattle.wire.specs.BytesLaws.{and-true, isByte, every-take, every-drop}
 use Rattle.wire.specs.Output.{put}
@@ -18,39 +18,9 @@ use Rattle.handshake.specs.Entry.{addressOf}
 use Rattle.handshake.specs.AddressLaws.{addressBytes-of}
 use Rattle.handshake.specs.Value.{addressBytes, shortStrings}
 use Rattle.handshake.specs.Tables.{bytesAt, entryOf, featureNumbers, entryNumbers, inside}
-use Rattle.handshake.specs.TablesLaws.{length-bytesAt}
+use Rattle.handshake.specs.TablesLaws.{length-bytesAt, numbers-of}
 use Rattle.vlq.specs.Vlq.{vlqBytes}
 use Rattle.entry_ask.specs.Asked.{lent}
-
-or-true : (t u : Bool) → t || u ≡ true → (t ≡ true) ⊎ (u ≡ true)
-or-true true u e = inl refl
-or-true false u e = inr e
-
-pub record RowNumbers (r : EntryRow) : Type 0 where
-  pub major : r .major < 256
-  pub minor : r .minor < 256
-  pub patch : r .patch < 256
-  pub port : r .port < 65536
-  pub kind : (r .addrlen ≡ 0 → ⊥) → (r .addrlen ≡ 8) ⊎ (r .addrlen ≡ 20)
-
-pub row-numbers : (r : EntryRow) → entryNumbers r ≡ true → RowNumbers r
-unfolding entryNumbers
-row-numbers r h =
-    let a = and-true (ltb (r .major) 256) _ h in
-    let b = and-true (ltb (r .minor) 256) _ (a .1) in
-    let c = and-true (ltb (r .patch) 256) _ (b .1) in
-    let d = and-true (ltb (r .port) 65536) _ (c .1) in
-    record {
-      major = ltb-true (r .major) 256 (a .0);
-      minor = ltb-true (r .minor) 256 (b .0);
-      patch = ltb-true (r .patch) 256 (c .0);
-      port = ltb-true (r .port) 65536 (d .0);
-      kind = λ some.
-          ⊎-elim
-          (λ e. inl (eqb-true (r .addrlen) 8 e))
-          (λ e. inr (eqb-true (r .addrlen) 20 e))
-          (or-true (eqb (r .addrlen) 8) (eqb (r .addrlen) 20) (rw (ne-eqb (r .addrlen) 0 some) at (d .1)));
-    }
 
 -- the elements of a slice of bytes
 pub all-bytes : (s : List ℕ) → ((i : ℕ) → getD s i 0 < 256) → every isByte s ≡ true
@@ -87,14 +57,14 @@ module _ (buffer : List ℕ) (r : EntryRow) (are : every isByte buffer ≡ true)
         addressBytes-of (r .addrlen) (bytesAt buffer (r .addrat) (r .addrlen - 4)) (r .port)
         (every-take isByte (r .addrlen - 4) (drop (r .addrat) buffer) (every-drop isByte (r .addrat) buffer are))
         (length-bytesAt buffer (r .addrat) (r .addrlen - 4) (rw (ne-eqb (r .addrlen) 0 some) at part))
-        (row-numbers r numbers .kind some)
+        (numbers-of r numbers .kind some)
 
     pub length-some : length (addressBytes (addressOf (r .addrlen) (bytesAt buffer (r .addrat) (r .addrlen - 4)) (r .port)))
         ≡ 2 + length (bytesAt buffer (r .addrat) (r .addrlen - 4)) + length (vlqBytes (r .port))
     length-some = omega (arith, ap length address-some, length-append (bytesAt buffer (r .addrat) (r .addrlen - 4)) (vlqBytes (r .port)))
 
     pub kind-byte : r .addrlen < 256
-    kind-byte = ⊎-elim (λ (e : r .addrlen ≡ 8). omega (arith, e)) (λ (e : r .addrlen ≡ 20). omega (arith, e)) (row-numbers r numbers .kind some)
+    kind-byte = ⊎-elim (λ (e : r .addrlen ≡ 8). omega (arith, e)) (λ (e : r .addrlen ≡ 20). omega (arith, e)) (numbers-of r numbers .kind some)
 
 -- ---- stores of bytes beside each other
 

@@ -3,7 +3,6 @@ use Prim.Native.Nat.{ℕ, zero, suc, _+_, _≤_, _<_, _^_}
 use native.Mathlib.Omega.{arith}
 use mathlib.Core.Bool.{Bool, true, false}
 use mathlib.Core.List.{List, [], _∷_, _++_, append-assoc}
-use mathlib.Core.Logic.{_⊎_, inl, inr}
 use mathlib.Core.Path.{_≡_, refl, ap, sym, _∙_}
 use lib.Dec.{T, leb}
 use lib.ListN.{length, getD, take, drop, length-append}
@@ -11,20 +10,20 @@ use lib.Seq.{getD-take, drop-cons}
 use borrow.Author.Tests.{le-leb}
 use Rattle.wire.specs.Bytes.{bigEndian, bigEndianBytes, sameBytes}
 use Rattle.wire.specs.BytesLaws.{same-self, length-bigEndianBytes, bigEndian-bytes}
-use Rattle.wire.specs.Numbers.{lt-or-ge}
-use Rattle.wire.specs.Reader.{Answer, got, refused, Reader, bind, guard, field, Segment}
-use Rattle.wire.specs.ReaderLaws.{field-got, field-missing, field-outside, length-part}
+use Rattle.wire.specs.Reader.{Answer, got, bind, guard, field, Segment}
+use Rattle.wire.specs.AnswerLaws.{no-answer, bind-got}
+use Rattle.wire.specs.ReaderLaws.{Taken, field-got, field-taken, length-part}
 use Rattle.wire.specs.Stable.{Stable, AtLeast}
 use Rattle.wire.specs.StableLaws.{stable-then, stable-pure, stable-place, stable-guard, stable-field, take-drop-take}
 use Rattle.wire.specs.ReadsBack.{StandsAt, ReadsBack}
 use Rattle.wire.specs.ReadsBackLaws.{bytesOf, stands-left, stands-right, reads-pure, reads-place, reads-guard, reads-then, reads-last}
 use Rattle.vlq.specs.Vlq.{limit}
 use Rattle.blake2b.specs.Blake2b.{check}
+use Rattle.blake2b.specs.CheckLaws.{length-check}
 use Rattle.types.specs.declared.Network.{Network}
-use Rattle.types.specs.declared.Network.the-variants.{Mainnet, Testnet}
 use Rattle.types.specs.Magic.{magicOf}
+use Rattle.types.specs.MagicLaws.{length-magic}
 use Rattle.frame.specs.Frame.{Header, header, BodyFrame, Checked, checked, body, frame, checkedBytes, frameBytes}
-use Rattle.frame.specs.CheckLaws.{length-check}
 
 -- ---- the cut law
 
@@ -58,31 +57,14 @@ module _ {isCut : ℕ → Bool} where
 
 -- ---- where a frame and its body stand
 
-impossible : {A : Type 0} {a : A} {e m : ℕ} {P : Type 0} → refused m ≡ got a e → P
-impossible q = let y : _≡_ {A = ℕ} 0 1 = cc in absurd (omega arith)
-
 -- what was read by one reader and then another was read by each
 then-got : {A B P : Type 0} {r : Answer A} {f : A → ℕ → Answer B} {b : B} {e : ℕ} → bind r f ≡ got b e
     → ((a : A) (d : ℕ) → r ≡ got a d → f a d ≡ got b e → P) → P
-then-got {r = got a d} q k = k a d refl q
-then-got {r = refused m} q k = impossible q
+then-got {r = r} {f = f} q k = let b = bind-got r f q in k (b .value) (b .next) (b .answer) (b .rest)
 
 guard-got : {A : Type 0} (t : Bool) (m : ℕ) (a : A) (s : List ℕ) (at : ℕ) {b : A} {e : ℕ} → guard t m a s at ≡ got b e → (b ≡ a) × (e ≡ at)
 guard-got true m a s at q = (cc, cc)
-guard-got false m a s at q = impossible q
-
--- what a field read
-record Taken {A : Type 0} (n : ℕ) (v : List ℕ → ℕ → A) (p : Reader A) : Type 0 where
-  read : (s : List ℕ) (at : ℕ) (a : A) (e : ℕ) → p s at ≡ got a e → (at + n ≤ length s) × (a ≡ v s at) × (e ≡ at + n)
-
-field-taken : {A : Type 0} (m n : ℕ) (v : List ℕ → ℕ → A) → Taken n v (field m n v)
-field-taken {A} m n v = record { read = λ s at a e q. go s at a e q (lt-or-ge (length s) at) (lt-or-ge (length s) (at + n)) }
-  where
-    go : (s : List ℕ) (at : ℕ) (a : A) (e : ℕ) → field m n v s at ≡ got a e → (length s < at) ⊎ (at ≤ length s) → (length s < at + n) ⊎ (at + n ≤ length s)
-        → (at + n ≤ length s) × (a ≡ v s at) × (e ≡ at + n)
-    go s at a e q x (inr g) = let r : got (v s at) (at + n) ≡ got a e = sym (field-got m n v s at g) ∙ q in (g, cc, cc)
-    go s at a e q (inl h) (inl g) = impossible (sym (field-outside m n v s at h) ∙ q)
-    go s at a e q (inr h) (inl g) = impossible (sym (field-missing m n v s at h g) ∙ q)
+guard-got false m a s at q = no-answer q
 
 -- where the body of n bytes of a frame at a place starts: after magic, code and length, and after the check if it has one
 unfoldable pub bodyStart : ℕ → ℕ → ℕ
@@ -146,10 +128,6 @@ least-frame network = record { moves = λ s at f e h q. let p = frame-places net
     start-least at (suc n) = omega arith
 
 -- ---- reading back
-
-length-magic : (network : Network) → length (magicOf network) ≡ 4
-length-magic Mainnet = refl
-length-magic Testnet = refl
 
 -- a field reads back where its value is that of the bytes that stand there
 reads-field : {A X : Type 0} (m n : ℕ) (v : List ℕ → ℕ → A) {see : A → X} {w : List ℕ} {x : X} → length w ≡ n

@@ -3,23 +3,23 @@ use Prim.Native.Nat.{ℕ, zero, suc, _+_, _≤_, _<_}
 use native.Mathlib.Omega.{arith}
 use mathlib.Core.List.{List, [], _∷_, _++_, append-assoc, append-nil}
 use mathlib.Core.Path.{_≡_, refl, sym, ap, _∙_}
-use lib.ListN.{length, take, drop, length-append, take-append-drop}
-use lib.Seq.{take-take, take-add}
+use lib.ListN.{length, take, drop, length-append}
 use borrow.Author.Tests.{le-leb, leb-true}
 use Rattle.wire.specs.Bytes.{bigEndianBytes}
 use Rattle.wire.specs.BytesLaws.{length-bigEndianBytes}
 use Rattle.wire.specs.declared.Written.{Written}
-use Rattle.wire.specs.declared.Written.the-variants.{To, Refused}
+use Rattle.wire.specs.declared.Written.the-variants.{To}
 use Rattle.wire.specs.Output.{put, asked, written, outputAfter}
-use Rattle.wire.specs.OutputLaws.{Wrote, length-put, put-put, put-eq, put-before, put-here, put-after, wrote-then, wrote-length, wrote-checked, asked-to}
+use Rattle.wire.specs.OutputLaws.{Wrote, put-here, wrote-then, wrote-length, wrote-checked, asked-to}
+use Rattle.wire.specs.StandingLaws.{put-standing, put-over, after-none}
 use Rattle.wire.specs.ReaderLaws.{length-part}
 use Rattle.vlq.specs.Vlq.{limit}
 use Rattle.blake2b.specs.Blake2b.{check}
+use Rattle.blake2b.specs.CheckLaws.{length-check}
 use Rattle.types.specs.declared.Network.{Network}
-use Rattle.types.specs.declared.Network.the-variants.{Mainnet, Testnet}
 use Rattle.types.specs.Magic.{magicOf}
+use Rattle.types.specs.MagicLaws.{length-magic}
 use Rattle.frame.specs.Frame.{checkedBytes, frameBytes}
-use Rattle.frame.specs.CheckLaws.{length-check}
 use Rattle.frame.specs.FrameLaws.{bodyStart, length-frameBytes}
 use Rattle.frame.specs.Writes.{frameWritten}
 use Rattle.frame_write.specs.Asked.{frameLength, frameWrittenFor}
@@ -29,10 +29,6 @@ unfoldable pub headBytes : Network → ℕ → ℕ → List ℕ
 headBytes network code n = magicOf network ++ (code ∷ bigEndianBytes 4 n)
 
 -- ---- lengths
-
-length-magic : (network : Network) → length (magicOf network) ≡ 4
-length-magic Mainnet = refl
-length-magic Testnet = refl
 
 pub length-head : (network : Network) (code n : ℕ) → length (headBytes network code n) ≡ 9
 unfolding headBytes
@@ -70,42 +66,6 @@ length-before network code n body = omega (arith, length-append (headBytes netwo
 frame-empty : (network : Network) (code : ℕ) → frameBytes network code [] ≡ headBytes network code 0
 unfolding frameBytes checkedBytes headBytes
 frame-empty network code = ap (λ (l : List ℕ). magicOf network ++ (code ∷ l)) (append-nil (bigEndianBytes 4 0))
-
--- ---- bytes that stand there already
-
--- storing what stands there changes nothing
-put-again : (o : List ℕ) (m n : ℕ) → m + n ≤ length o → put o m (take n (drop m o)) ≡ o
-put-again o m n h =
-    let l : length (take n (drop m o)) ≡ n = length-part n o m h in
-    put-eq o m (take n (drop m o)) (omega arith)
-    ∙ ap (λ (k : ℕ). take m o ++ take n (drop m o) ++ drop (m + k) o) l
-    ∙ ap (λ (x : List ℕ). x ++ drop (m + n) o) (sym (take-add m n o))
-    ∙ take-append-drop (m + n) o
-
--- bytes a, and after them n bytes that stand there already
-put-standing : (out : List ℕ) (at : ℕ) (a : List ℕ) (m n : ℕ) → m ≡ at + length a → m + n ≤ length out → put out at (a ++ take n (drop m out)) ≡ put out at a
-put-standing out at a m n p h =
-    let mid : List ℕ = put out at a in
-    let kept : drop m mid ≡ drop m out = ap (λ (k : ℕ). drop k mid) p ∙ put-after out at a (omega arith) ∙ ap (λ (k : ℕ). drop k out) (sym p) in
-    sym (put-put a out at (take n (drop m out)))
-    ∙ ap (λ (k : ℕ). put mid k (take n (drop m out))) (sym p)
-    ∙ ap (λ (l : List ℕ). put mid m (take n l)) (sym kept)
-    ∙ put-again mid m n (omega (arith, length-put out at a))
-
--- bytes b, and then a before them and b once more
-put-over : (out : List ℕ) (at : ℕ) (a b : List ℕ) (m : ℕ) → m ≡ at + length a → m + length b ≤ length out → put (put out m b) at (a ++ b) ≡ put out at (a ++ b)
-put-over out at a b m p h =
-    let mid : List ℕ = put out m b in
-    let l : length mid ≡ length out = length-put out m b in
-    let e : at + length (a ++ b) ≡ m + length b = omega (arith, length-append a b) in
-    let before : take at mid ≡ take at out =
-    sym (take-take at m mid (omega arith)) ∙ ap (take at) (put-before out m b h) ∙ take-take at m out (omega arith) in
-    let after : drop (at + length (a ++ b)) mid ≡ drop (at + length (a ++ b)) out =
-    ap (λ (k : ℕ). drop k mid) e ∙ put-after out m b h ∙ ap (λ (k : ℕ). drop k out) (sym e) in
-    put-eq mid at (a ++ b) (omega arith)
-    ∙ ap (λ (x : List ℕ). x ++ (a ++ b) ++ drop (at + length (a ++ b)) mid) before
-    ∙ ap (λ (x : List ℕ). take at out ++ (a ++ b) ++ x) after
-    ∙ sym (put-eq out at (a ++ b) (omega arith))
 
 -- ---- a frame around a body that stands there
 
@@ -180,11 +140,6 @@ module _ (network : Network) (code : ℕ) (out : List ℕ) (at : ℕ) (body : Li
 
 -- ---- what the calls say
 
-after-none : (r : Written) (out : List ℕ) (at : ℕ) → outputAfter r out at [] ≡ put out at []
-unfolding outputAfter put
-after-none (To e) out at = refl
-after-none (Refused m) out at = refl
-
 -- a body that has room in its frame was stored there
 pub wrote-body : (out : List ℕ) (at : ℕ) (body : List ℕ) {r : Written} {mid : List ℕ} → at + frameLength (length body) ≤ length out
     → r ≡ written [] [] out (at + 13) body → mid ≡ outputAfter r out (at + 13) body → Wrote out (at + 13) body (at + 13 + length body) mid
@@ -203,12 +158,3 @@ unfolding frameWrittenFor
 asked-frame len at n {r} {e} says p =
     let h = asked-to _ (To (at + frameLength n)) e (sym says ∙ p) .0 in
     (leb-true n limit (h .1 .0), leb-true (at + frameLength n) len (h .1 .1 .0))
-
--- the output after a writer that accepted, and after one that refused
-pub after-to : {r : Written} {e f : ℕ} {out bs last : List ℕ} {at : ℕ} → r ≡ To e → Wrote out at bs f last → last ≡ outputAfter r out at bs
-unfolding outputAfter
-after-to p w = rw p (w .bytes)
-
-pub after-refused : {r : Written} {m : ℕ} {out : List ℕ} (at : ℕ) (bs : List ℕ) → r ≡ Refused m → out ≡ outputAfter r out at bs
-unfolding outputAfter
-after-refused at bs p = rw p

@@ -8,5 +8,7 @@ pub mod ValueLaws
 pub mod Tables
 pub mod Writes
 pub mod TablesLaws
+pub mod RowsLaws
+pub mod PuttingLaws
 pub mod WritesLaws
 pub mod ModeCases

@@ -1,25 +1,22 @@
--- What a row tells once 16 and 12 were answered "yes": a part inside the buffer has its length, and an address has the numbers of its type.
-use Prim.Native.Nat.{ℕ, zero, suc, _+_, _-_, _/_, _^_, _≤_, _<_}
+-- What a row tells once 16 and 12 were answered "yes": its numbers and its parts; a part inside the buffer has its length, and an address has the
+-- numbers of its type.
+use Prim.Native.Nat.{ℕ, zero, suc, _+_, _-_, _/_, _≤_, _<_}
 use native.Mathlib.Omega.{arith}
-use mathlib.Core.Bool.{Bool, true, false, _||_}
+use mathlib.Core.Bool.{Bool, true, _||_}
 use mathlib.Core.List.{List}
 use mathlib.Core.Logic.{_⊎_, inl, inr, ⊎-elim}
-use mathlib.Core.Path.{_≡_, refl}
-use lib.Dec.{eqb, ltb}
+use mathlib.Core.Path.{_≡_}
+use lib.Dec.{eqb, leb, ltb}
 use lib.ListN.{length, drop, length-take, length-drop}
-use borrow.Author.Tests.{leb-true, ltb-true, eqb-true}
+use borrow.Author.Tests.{leb-true, ltb-true, eqb-true, ne-eqb}
 use Rattle.wire.specs.Bytes.{every}
-use Rattle.wire.specs.BytesLaws.{and-true, every-take, every-drop, isByte}
+use Rattle.wire.specs.BytesLaws.{and-true, or-true, every-take, every-drop, isByte}
 use Rattle.wire.specs.Numbers.{lt-or-ge}
 use Rattle.handshake.specs.Value.{AddressTyped}
 use Rattle.handshake.specs.AddressLaws.{addressOf-typed}
 use Rattle.handshake.specs.declared.EntryRow.{EntryRow}
-use Rattle.handshake.specs.Tables.{rows, entryRow, Lent, entryRows, bytesAt, entryOf, wholeRows, entryNumbers, tablesWhole, inside, entryInside}
+use Rattle.handshake.specs.Tables.{rows, entryRow, Lent, entryRows, ownRows, bytesAt, entryOf, wholeRows, entryNumbers, tablesWhole, inside, featureInside, entryInside}
 use Rattle.handshake.specs.Writes.{rowInside}
-
-or-true : (t u : Bool) → t || u ≡ true → (t ≡ true) ⊎ (u ≡ true)
-or-true true u e = inl refl
-or-true false u e = inr e
 
 -- a part inside the buffer
 pub length-bytesAt : (buffer : List ℕ) (at n : ℕ) → inside buffer at n ≡ true → length (bytesAt buffer at n) ≡ n
@@ -56,30 +53,62 @@ module _ (l : Lent) (whole : tablesWhole l ≡ true) where
   unfolding rowInside
   row-inside k h = and-true (ltb k (length (l .entries) / 12)) _ h .1
 
--- the address of a row
-module _ (l : Lent) (r : EntryRow) (numbers : entryNumbers r ≡ true) (parts : entryInside l r ≡ true) where
-  port-below : r .port < 2 ^ 16
-  unfolding entryNumbers
-  port-below =
-      let a = and-true (ltb (r .major) 256) _ numbers .1 in
-      let b = and-true (ltb (r .minor) 256) _ a .1 in
-      let c = and-true (ltb (r .patch) 256) _ b .1 in
-      ltb-true (r .port) 65536 (and-true (ltb (r .port) 65536) _ c .0)
+-- what 16 says of a row's numbers
+pub record RowNumbers (r : EntryRow) : Type 0 where
+  pub major : r .major < 256
+  pub minor : r .minor < 256
+  pub patch : r .patch < 256
+  pub port : r .port < 65536
+  pub kind : (r .addrlen ≡ 0 → ⊥) → (r .addrlen ≡ 8) ⊎ (r .addrlen ≡ 20)
 
-  -- with L = 0 it has no bytes
-  address-long : length (bytesAt (l .buffer) (r .addrat) (r .addrlen - 4)) ≡ r .addrlen - 4
+pub numbers-of : (r : EntryRow) → entryNumbers r ≡ true → RowNumbers r
+unfolding entryNumbers
+numbers-of r h =
+    let a = and-true (ltb (r .major) 256) _ h in
+    let b = and-true (ltb (r .minor) 256) _ (a .1) in
+    let c = and-true (ltb (r .patch) 256) _ (b .1) in
+    let d = and-true (ltb (r .port) 65536) _ (c .1) in
+    record {
+      major = ltb-true (r .major) 256 (a .0);
+      minor = ltb-true (r .minor) 256 (b .0);
+      patch = ltb-true (r .patch) 256 (c .0);
+      port = ltb-true (r .port) 65536 (d .0);
+      kind = λ some.
+          ⊎-elim
+          (λ e. inl (eqb-true (r .addrlen) 8 e))
+          (λ e. inr (eqb-true (r .addrlen) 20 e))
+          (or-true (eqb (r .addrlen) 8) (eqb (r .addrlen) 20) (rw (ne-eqb (r .addrlen) 0 some) at (d .1)));
+    }
+
+-- what 12 says of a row's parts
+module _ (l : Lent) (r : EntryRow) (parts : entryInside l r ≡ true) where
+  pub address-part : (eqb (r .addrlen) 0 || inside (l .buffer) (r .addrat) (r .addrlen - 4)) ≡ true
   unfolding entryInside
-  address-long =
+  address-part =
       let a = and-true (inside (l .buffer) (r .agentat) (r .agentlen)) _ parts .1 in
       let b = and-true (inside (l .buffer) (r .nameat) (r .namelen)) _ a .1 in
-      let c = and-true (eqb (r .addrlen) 0 || inside (l .buffer) (r .addrat) (r .addrlen - 4)) _ b .0 in
+      and-true (eqb (r .addrlen) 0 || inside (l .buffer) (r .addrat) (r .addrlen - 4)) _ b .0
+
+  pub own-range : r .first + r .count ≤ length (l .features) / 3
+  unfolding entryInside
+  own-range =
+      let a = and-true (inside (l .buffer) (r .agentat) (r .agentlen)) _ parts .1 in
+      let b = and-true (inside (l .buffer) (r .nameat) (r .namelen)) _ a .1 in
+      let d = and-true (eqb (r .addrlen) 0 || inside (l .buffer) (r .addrat) (r .addrlen - 4)) _ b .1 in
+      leb-true (r .first + r .count) (length (l .features) / 3) (and-true (leb (r .first + r .count) (length (l .features) / 3)) (every (featureInside (l .buffer)) (ownRows l r)) d .0)
+
+-- the address of a row
+module _ (l : Lent) (r : EntryRow) (numbers : entryNumbers r ≡ true) (parts : entryInside l r ≡ true) where
+  -- with L = 0 it has no bytes
+  address-long : length (bytesAt (l .buffer) (r .addrat) (r .addrlen - 4)) ≡ r .addrlen - 4
+  address-long =
       ⊎-elim
       (λ x. let e : r .addrlen ≡ 0 = eqb-true (r .addrlen) 0 x in rw e)
       (λ x. length-bytesAt (l .buffer) (r .addrat) (r .addrlen - 4) x)
-      (or-true (eqb (r .addrlen) 0) _ c)
+      (or-true (eqb (r .addrlen) 0) _ (address-part l r parts))
 
   pub row-address : every isByte (l .buffer) ≡ true → AddressTyped (entryOf l r .address)
   unfolding entryOf
   row-address typed =
       addressOf-typed (r .addrlen) (bytesAt (l .buffer) (r .addrat) (r .addrlen - 4)) (r .port)
-      (every-take isByte (r .addrlen - 4) (drop (r .addrat) (l .buffer)) (every-drop isByte (r .addrat) (l .buffer) typed)) address-long port-below
+      (every-take isByte (r .addrlen - 4) (drop (r .addrat) (l .buffer)) (every-drop isByte (r .addrat) (l .buffer) typed)) address-long (numbers-of r numbers .port)

@@ -9,10 +9,10 @@ use borrow.Author.Tests.{ne-eqb}
 use Rattle.wire.specs.Bytes.{bigEndian}
 use Rattle.wire.specs.declared.Part.{Part}
 use Rattle.wire.specs.Reader.{got, Segment, part, partOf}
+use Rattle.wire.specs.ReaderLaws.{part-at}
 use Rattle.types.specs.declared.Address.{Address}
 use Rattle.types.specs.declared.Address.the-variants.{None, V4, V6}
 use Rattle.handshake.specs.Entry.{addressOf}
-use Rattle.handshake_read.specs.PartsLaws.{part-at}
 
 module _ (l : ℕ) (s : List ℕ) (at port : ℕ) where
   pub address-v4 : (x : ℕ) → l ≡ 8 → x ≡ bigEndian (take 4 (drop at s)) → V4 x port ≡ addressOf l (take (l - 4) (drop at s)) port

@@ -2,4 +2,3 @@ pub mod Parts
 pub mod PartsLaws
 pub mod Answers
 pub mod AnswerLaws
-pub mod FeaturesLaws

@@ -8,7 +8,8 @@ use mathlib.Core.Path.{_≡_, _∙_}
 use lib.ListN.{length, take, drop}
 use Rattle.wire.specs.declared.Part.{Part}
 use Rattle.wire.specs.Reader.{got, refused, andThen, Segment, byte, part, guard}
-use Rattle.wire.specs.ReaderLaws.{length-part}
+use Rattle.wire.specs.AnswerLaws.{no-answer, bind-got}
+use Rattle.wire.specs.ReaderLaws.{length-part, part-at}
 use Rattle.utf8.specs.Utf8.{utf8}
 use Rattle.vlq.specs.ShortString.{string, shortString}
 use Rattle.handshake.specs.Entry.{entry}
@@ -17,7 +18,7 @@ use Rattle.handshake_read.specs.declared.Feature.{Feature}
 use Rattle.handshake_verdict.specs.declared.Found.{Found}
 use Rattle.handshake_verdict.specs.declared.Found.the-variants.{At}
 use Rattle.handshake_read.specs.Parts.{EntryHead, EntryFeatures, features}
-use Rattle.handshake_read.specs.PartsLaws.{bind-got, part-at, entryOf}
+use Rattle.handshake_read.specs.PartsLaws.{entryOf}
 use Rattle.handshake_verdict.specs.Answers.{partIfAny, entryUrl, foundIn, Inside}
 use Rattle.handshake_verdict.proofs.FoundLaws.{FoundFirst}
 
@@ -32,7 +33,7 @@ short-string-inside s at {g} {next} q =
   where
     go : (u : Bool) (h : Segment) (m : ℕ) → guard u 4 h s m ≡ got g next → h .start ≤ length s → g .start ≤ length s
     go true h m q k = let e : h ≡ g = cc in rw (← e) k
-    go false h m q k = let z : _≡_ {A = ℕ} 0 1 = cc in absurd (omega arith)
+    go false h m q k = no-answer q
 
 module _ (s : List ℕ) (f : Feature) where
   -- the code's part ends at start + len, so its length is written start + len - start

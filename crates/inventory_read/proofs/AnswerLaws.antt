@@ -10,11 +10,11 @@ use lib.ListN.{length}
 use borrow.Author.Tests.{lt-ltb}
 use Rattle.wire.specs.Numbers.{lt-or-ge}
 use Rattle.wire.specs.Reader.{got, refused, Reader, Segment, part, partOf, listOf, mapAnswer}
-use Rattle.wire.specs.ReaderLaws.{part-got, length-part, map-value, map-refusal}
+use Rattle.wire.specs.AnswerLaws.{no-answer}
+use Rattle.wire.specs.ReaderLaws.{part-got, part-at, length-part, map-value, map-refusal}
+use Rattle.wire.specs.ListOfLaws.{listed}
 use Rattle.wire.specs.declared.Part.{Part}
 use Rattle.vlq.specs.Vlq.{vlqLength}
-use Rattle.handshake_read.specs.PartsLaws.{part-at}
-use Rattle.inventory_read.specs.ListOfLaws.{no-answer, listed}
 use Rattle.inventory_read.specs.Parts.{endOf, Header, header, Items, items, itemsStart, itemOf, itemAt, idAt, payloadAfter}
 use Rattle.inventory_read.specs.PartsLaws.{header-ends, items-read, ids-there, ids-missing, item-outside}
 use Rattle.inventory_read.specs.Answers.{inventoryIn, idOf, payloadSum}
@@ -30,7 +30,7 @@ module _ {A : Type 0} (p : List A → Reader A) (s : List ℕ) {h : Header} {at 
   pub items-got : {l : List A} {e : ℕ} → listOf (h .count) p s at ≡ got l e
       → got (record { kind = h .type; count = h .count; start = record { 0 = at } }) e ≡ mapAnswer (inventoryIn s) (items p s 0)
   unfolding items
-  items-got {l} {e} r = rw (q, r, map-value, items-start, listed p s (h .count) at r)
+  items-got {l} {e} r = rw (q, r, map-value, items-start, listed p s (h .count) at r .0)
 
   pub items-refused : {m : ℕ} → listOf (h .count) p s at ≡ refused m → refused m ≡ mapAnswer (inventoryIn s) (items p s 0)
   unfolding items
@@ -67,7 +67,7 @@ module _ {A : Type 0} (p : List A → Reader A) (k : ℕ) (s : List ℕ) where
 ids-inside : (s : List ℕ) {i : Items Segment} {e : ℕ} → items (λ before. part 32) s 0 ≡ got i e → itemsStart s + 32 * length (i .list) ≤ length s
 ids-inside s {i} q =
     let r = items-read (λ before. part 32) s q in
-    let n = listed (λ before. part 32) s (r .opening .count) (itemsStart s) (r .taken) in
+    let n = listed (λ before. part 32) s (r .opening .count) (itemsStart s) (r .taken) .0 in
     side (r .opening .count) n (header-ends s (r .opened)) (r .taken) (lt-or-ge (length s) (itemsStart s + 32 * r .opening .count))
   where
     side : (n : ℕ) → length (i .list) ≡ n → itemsStart s ≤ length s → {e : ℕ} → listOf n (λ before. part 32) s (itemsStart s) ≡ got (i .list) e

@@ -6,7 +6,7 @@ use mathlib.Core.Path.{_≡_, ap, _∙_}
 use lib.ListN.{length}
 use Rattle.wire.specs.Reader.{got, refused, mapAnswer, listOf}
 use Rattle.messages.specs.Message.{Payload, payload, total}
-use Rattle.inventory_read.specs.LoopLaws.{ListSoFar, list-again, list-refused}
+use Rattle.wire.specs.LoopLaws.{ListSoFar, list-again, list-refused}
 use Rattle.inventory_read.specs.Parts.{payloadAfter}
 use Rattle.inventory_read.specs.PartsLaws.{payload-after}
 

@@ -1,5 +1,3 @@
 pub mod Parts
 pub mod Answers
-pub mod ListOfLaws
-pub mod LoopLaws
 pub mod PartsLaws

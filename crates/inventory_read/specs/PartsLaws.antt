@@ -11,14 +11,14 @@ use lib.ListN.{length, length-append, take, drop}
 use borrow.Author.Tests.{leb-true, lt-ltb, le-ltb}
 use Rattle.wire.specs.Numbers.{lt-or-ge}
 use Rattle.wire.specs.Reader.{Answer, got, refused, Reader, bind, pure, andThen, byte, Segment, part, fold, listOf, mapAnswer}
+use Rattle.wire.specs.AnswerLaws.{no-answer, value-of, end-of, bind-got, bind-step, bind-twice}
 use Rattle.wire.specs.ReaderLaws.{part-got, part-missing}
+use Rattle.wire.specs.ListOfLaws.{turn, listed, Indexed, indexed}
 use Rattle.wire.specs.Stable.{Stable}
 use Rattle.wire.specs.StableLaws.{stable-ends, stable-then, stable-pure, stable-guard, stable-byte}
 use Rattle.vlq.specs.Vlq.{vlqLength}
 use Rattle.vlq.specs.VlqLaws.{stable-vlqLength}
-use Rattle.handshake_read.specs.PartsLaws.{bind-got}
 use Rattle.messages.specs.Message.{Payload, Message, modifierResponse, maxInvObjects, count, ids, total, payload, payloads}
-use Rattle.inventory_read.specs.ListOfLaws.{no-answer, value-of, end-of, listed, Indexed, indexed}
 use Rattle.inventory_read.specs.Parts.{endOf, Header, header, Items, items, itemsStart, itemOf, itemAt, payloadAfter}
 
 -- ---- counts
@@ -64,7 +64,7 @@ header-counts s q =
 
 record AllThere (n : ℕ) (before : List Segment) (s : List ℕ) (at : ℕ) : Type 0 where
   list : List Segment
-  answer : fold n (λ l. andThen (part 32) (λ g. pure (l ++ (g ∷ [])))) before s at ≡ got list (at + 32 * n)
+  answer : fold n (turn (λ before. part 32)) before s at ≡ got list (at + 32 * n)
   counted : length list ≡ length before + n
 
 segment : List ℕ → ℕ → Segment
@@ -89,15 +89,15 @@ unfolding listOf
 ids-there n s at h = let t = all-there n [] s at h in (t .list, t .answer, t .counted ∙ zero-add n)
 
 some-missing : (n : ℕ) (before : List Segment) (s : List ℕ) (at : ℕ) → at ≤ length s → length s < at + 32 * n
-    → fold n (λ l. andThen (part 32) (λ g. pure (l ++ (g ∷ [])))) before s at ≡ refused 1
+    → fold n (turn (λ before. part 32)) before s at ≡ refused 1
 unfolding fold segment
 some-missing zero before s at h g = absurd (omega arith)
 some-missing (suc n) before s at h g =
     side (lt-or-ge (length s) (at + 32)) (λ u. some-missing n (before ++ (segment s at ∷ [])) s (at + 32) u (omega arith))
   where
     side : (length s < at + 32) ⊎ (at + 32 ≤ length s)
-        → (at + 32 ≤ length s → fold n (λ l. andThen (part 32) (λ g. pure (l ++ (g ∷ [])))) (before ++ (segment s at ∷ [])) s (at + 32) ≡ refused 1)
-        → bind (bind (part 32 s at) (λ g m. got (before ++ (g ∷ [])) m)) (λ b m. fold n (λ l. andThen (part 32) (λ g. pure (l ++ (g ∷ [])))) b s m) ≡ refused 1
+        → (at + 32 ≤ length s → fold n (turn (λ before. part 32)) (before ++ (segment s at ∷ [])) s (at + 32) ≡ refused 1)
+        → bind (bind (part 32 s at) (λ g m. got (before ++ (g ∷ [])) m)) (λ b m. fold n (turn (λ before. part 32)) b s m) ≡ refused 1
     side (inl u) k = rw (part-missing 32 s at h u)
     side (inr u) k = rw (part-got 32 s at u) (k u)
 
@@ -112,23 +112,13 @@ module _ {A : Type 0} (p : List A → Reader A) (s : List ℕ) where
   pub item-inside : (n k at : ℕ) {l : List A} {e : ℕ} → listOf n p s at ≡ got l e → k < n
       → (i : Indexed p s at k l) × (itemOf n k p s at ≡ got (i .value) (i .next))
   unfolding itemOf
-  item-inside n k at q h = let i = indexed p s n k at q h in (i, rw (lt-ltb k n h, i .skipped) (i .read))
+  item-inside n k at q h = let c = listed p s n at q in let i = indexed p s k (c .1) (omega (arith, c .0)) in (i, rw (lt-ltb k n h, i .skipped) (i .read))
 
   pub item-outside : (n k at : ℕ) → n ≤ k → itemOf n k p s at ≡ refused 12
   unfolding itemOf
   item-outside n k at h = rw (le-ltb k n h)
 
 -- ---- bodies
-
-pub bind-step : {A B C : Type 0} (r : Answer A) (f : A → ℕ → Answer C) (g : A → ℕ → Answer B) (k : B → ℕ → Answer C)
-    → ((a : A) (n : ℕ) → f a n ≡ bind (g a n) k) → bind r f ≡ bind (bind r g) k
-bind-step (got a n) f g k h = h a n
-bind-step (refused m) f g k h = refl
-
-bind-twice : {A B C D : Type 0} (r : Answer A) (f : A → ℕ → Answer D) (g : A → ℕ → Answer B) (h : B → ℕ → Answer C) (k : C → ℕ → Answer D)
-    → ((a : A) (n : ℕ) → f a n ≡ bind (bind (g a n) h) k) → bind r f ≡ bind (bind (bind r g) h) k
-bind-twice (got a n) f g h k e = e a n
-bind-twice (refused m) f g h k e = refl
 
 abbrev itemised : {A : Type 0} → ℕ → List A → Items A
 itemised type l = record { type = type; list = l }
@@ -205,7 +195,7 @@ module _ {A : Type 0} (p : List A → Reader A) (k : ℕ) (s : List ℕ) where
   pub item-of-list : (n at : ℕ) {l : List A} {e : ℕ} → listOf n p s at ≡ got l e → k < length l
       → (x : Indexed p s at k l) × (itemOf (length l) k p s at ≡ got (x .value) (x .next))
   item-of-list n at {l} q h =
-      let c = listed p s n at q in
+      let c = listed p s n at q .0 in
       let t = item-inside p s n k at q (omega (arith, c)) in
       (t .0, ap (λ (n : ℕ). itemOf n k p s at) c ∙ t .1)
 

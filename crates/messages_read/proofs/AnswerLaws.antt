@@ -5,6 +5,7 @@ use mathlib.Core.Path.{_≡_}
 use lib.ListN.{length}
 use Rattle.wire.specs.Reader.{got, refused, Segment, part, listOf, mapAnswer}
 use Rattle.wire.specs.ReaderLaws.{map-value, map-refusal}
+use Rattle.wire.specs.ListOfLaws.{listed}
 use Rattle.types.specs.declared.Network.{Network}
 use Rattle.handshake.specs.Entry.{Entry, entry}
 use Rattle.messages.specs.Message as Bodies
@@ -12,7 +13,6 @@ use Rattle.messages.specs.Message.{modifierRequest, inv, count, ids, payload, p
 use Rattle.messages.specs.Bogus.{bogusCount}
 use Rattle.inventory_read.specs.declared.Inventory.{Inventory}
 use Rattle.inventory_read.specs.Answers.{inventoryIn}
-use Rattle.inventory_read.specs.ListOfLaws.{listed}
 use Rattle.inventory_read.specs.Parts.{Items, items}
 use Rattle.inventory_read.specs.PartsLaws.{ids-items, payloads-items}
 use Rattle.messages_read.specs.PartsLaws.{entries-start}
@@ -25,7 +25,7 @@ module _ (network : Network) (cap : ℕ) (s : List ℕ) {n at : ℕ} (q : count 
   pub peers-got : {l : List Entry} {b e : ℕ} → listOf n (λ before. entry) s at ≡ got l e → bogusCount network l ≡ b
       → got (Messages.Peers (record { count = n; bogus = b; start = record { 0 = at } })) e ≡ mapAnswer (messageOf network s) (peersBody cap s 0)
   unfolding peersBody
-  peers-got {l} {b} {e} r f = rw (q, r, map-value, entries-start cap s q, f, listed (λ before. entry) s n at r)
+  peers-got {l} {b} {e} r f = rw (q, r, map-value, entries-start cap s q, f, listed (λ before. entry) s n at r .0)
 
   pub peers-refused : {m : ℕ} → listOf n (λ before. entry) s at ≡ refused m → refused m ≡ mapAnswer (messageOf network s) (peersBody cap s 0)
   unfolding peersBody

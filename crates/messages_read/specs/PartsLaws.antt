@@ -4,12 +4,12 @@ use mathlib.Core.List.{List}
 use mathlib.Core.Path.{_≡_, refl, ap, sym, _∙_}
 use lib.ListN.{length}
 use Rattle.wire.specs.Reader.{Answer, got, refused, bind, listOf, mapAnswer}
+use Rattle.wire.specs.AnswerLaws.{bind-got, bind-step}
+use Rattle.wire.specs.ListOfLaws.{listed, Indexed}
 use Rattle.handshake.specs.Entry.{Entry, entry}
-use Rattle.handshake_read.specs.PartsLaws.{bind-got}
 use Rattle.messages.specs.Message.{peers, count, peersBody}
-use Rattle.inventory_read.specs.ListOfLaws.{listed, Indexed}
 use Rattle.inventory_read.specs.Parts.{endOf, itemOf}
-use Rattle.inventory_read.specs.PartsLaws.{count-got, bind-step, item-of-list}
+use Rattle.inventory_read.specs.PartsLaws.{count-got, item-of-list}
 use Rattle.messages_read.specs.Parts.{entries, entriesStart, entryAt, entryAmong}
 
 pub entries-start : (cap : ℕ) (s : List ℕ) {n at : ℕ} → count cap s 0 ≡ got n at → entriesStart s ≡ at
@@ -52,5 +52,5 @@ entry-among cap k s {n} {at} q = rw q (go (listOf n (λ before. entry) s at) ref
   where
     go : (r : Answer (List Entry)) → listOf n (λ before. entry) s at ≡ r
         → bind r (λ l next. itemOf (length l) k (λ before. entry) s (entriesStart s)) ≡ bind r (λ l next. itemOf n k (λ before. entry) s at)
-    go (got l m) h = rw (listed (λ before. entry) s n at h, entries-start cap s q)
+    go (got l m) h = rw (listed (λ before. entry) s n at h .0, entries-start cap s q)
     go (refused m) h = refl

@@ -11,7 +11,7 @@ use Rattle.wire.specs.Output.{written, outputAfter}
 use Rattle.wire.specs.OutputLaws.{Wrote, wrote-checked}
 use Rattle.wire.specs.ReaderLaws.{length-part}
 use Rattle.handshake.specs.Tables.{bytesAt}
-use Rattle.messages_write.specs.PuttingLaws.{Putting, putting-passed, putting-room, putting-turn}
+use Rattle.handshake.specs.PuttingLaws.{Putting, putting-passed, putting-room, putting-turn}
 
 -- the rows before i were stored
 abbrev pub PuttingIds : List ℕ → ℕ → List ℕ → List ℕ → List ℕ → ℕ → ℕ → Type 0

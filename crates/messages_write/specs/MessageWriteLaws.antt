@@ -11,7 +11,7 @@ use Rattle.wire.specs.Bytes.{every}
 use Rattle.wire.specs.BytesLaws.{and-true}
 use Rattle.wire.specs.declared.Written.{Written}
 use Rattle.wire.specs.declared.Written.the-variants.{To}
-use Rattle.wire.specs.Output.{put, ask, asked, written, outputAfter}
+use Rattle.wire.specs.Output.{ask, asked, written, outputAfter}
 use Rattle.wire.specs.OutputLaws.{Wrote, wrote-byte, wrote-then, wrote-checked, asked-to, written-to}
 use Rattle.vlq.specs.Vlq.{limit, vlqBytes}
 use Rattle.types.specs.declared.Network.{Network}
@@ -22,11 +22,11 @@ use Rattle.frame_write.specs.FrameWriteLaws.{length-frame}
 use Rattle.handshake.specs.Tables.{Lent, rows, bytesAt, inside}
 use Rattle.handshake.specs.TablesLaws.{length-bytesAt}
 use Rattle.handshake.specs.Value.{entriesAsked}
+use Rattle.handshake.specs.RowsLaws.{length-rows}
 use Rattle.messages.specs.Value as Values
 use Rattle.messages.specs.Value.{codeOf, bodyBytes, idsBytes, unknownCode, payloadsWithin, countWithin, codeFree, messageAsked}
 use Rattle.messages.specs.Writes.{idPlaces, idsOf, MessageWrite, writeGetPeers, writePeers, writeModifierRequest, writeModifierResponse, writeInv, writeSyncInfo, writeUnknown, valueOf, messageWhole, messageInside, messageWritten}
 use Rattle.messages_write.specs.Asked.{unknownWrittenFor, idsInside, idsWrittenFor}
-use Rattle.messages_write.specs.RowsLaws.{length-rows}
 
 -- ---- what is said
 
@@ -139,8 +139,3 @@ pub count-stored : (kind n : ℕ) (out : List ℕ) (at : ℕ) {r : Written} {mid
 count-stored kind n out at room says left =
     wrote-then (wrote-byte out at kind)
     (wrote-checked [] [] (set out at kind) (at + 1) (vlqBytes n) says left tt tt (omega (arith, length-set out at kind)))
-
--- the frame was stored by a writer that accepted
-pub after-put : {r : Written} {e : ℕ} {last : List ℕ} (out : List ℕ) (at : ℕ) (bs : List ℕ) → r ≡ To e → last ≡ put out at bs → last ≡ outputAfter r out at bs
-unfolding outputAfter
-after-put out at bs p q = rw p q

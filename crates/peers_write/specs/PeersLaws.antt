@@ -23,13 +23,13 @@ use Rattle.frame_write.specs.FrameWriteLaws.{length-frame}
 use Rattle.handshake.specs.Value.{entryBytes, shortStrings, utf8Strings, fewFeatures, lengthsWithin, entriesAsked}
 use Rattle.handshake.specs.Tables.{Lent, entryRow, entryRows, entryOf, entriesOf, tablesWhole, entryInside}
 use Rattle.handshake.specs.Writes.{entryAt, rowAsked}
+use Rattle.handshake.specs.RowsLaws.{length-rows}
 use Rattle.entry_ask.specs.Asked.{rowWhole, entriesSaid}
 use Rattle.entry_ask.specs.AskedLaws.{whole-row}
 use Rattle.entry_ask.specs.RowLaws.{each-row-asked}
 use Rattle.messages.specs.Value as Values
 use Rattle.messages.specs.Value.{codeOf, bodyBytes, payloadsWithin, countWithin, codeFree, messageAsked}
 use Rattle.messages.specs.Writes.{writePeers, valueOf, messageWhole, messageInside, messageWritten}
-use Rattle.messages_write.specs.RowsLaws.{length-rows}
 use Rattle.peers_write.specs.Asked.{peersBytes, countSaid, peersSaid, Writable}
 
 -- ---- lengths

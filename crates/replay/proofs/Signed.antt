@@ -1,9 +1,9 @@
 -- The casts of a signed number. Code reads a number n back from its bits, as `toZ w (ofZ w n)`, which is n since n fits.
-use Prim.Native.Nat.{ℕ, suc, _+_, _-_}
+use Prim.Native.Nat.{_+_}
 use mathlib.Core.Bool.{true, false, true≢false}
 use mathlib.Core.Path.{_≡_, ap, sym, _∙_, subst}
 use native.Mathlib.Omega.{arith}
-use borrow.Author.Tests.{le-ltb, ltb-true}
+use borrow.Author.Tests.{ltb-true}
 use lib.Dec.{T}
 use lib.IntN.{ℤ, pos, negsuc, natAbs, _-ℤ_}
 use lib.Signed.{ltZ, nonNeg}
@@ -11,12 +11,10 @@ use mir.Facts.{sfits-widen}
 use mir.Syntax.{w32, w64}
 use mir.Val.{Fits, SFits, toZ, ofZ}
 use mir.ValLaws.{toZ-pos, toZ-ofZ}
+use Rattle.zigzag.specs.WidthLaws.{minus-below}
 
 pub widens : (n : ℤ) → SFits w32 n → SFits w64 (toZ w32 (ofZ w32 n))
 widens n f = rw (toZ-ofZ w32 n f) (sfits-widen tt f)
-
-minus-below : (k : ℕ) → negsuc 0 -ℤ negsuc k ≡ pos k
-minus-below k = let e : suc k - 1 ≡ k = omega arith in rw (le-ltb (suc k) 1 (omega arith), e)
 
 -- y below 0: -1 - y fits an i64, and the same number a u64, with one more.
 pub record Below (y : ℤ) : Type 0 where

@@ -1,3 +1,4 @@
 pub mod Lines
 pub mod LinesLaws
 pub mod Report
+pub mod ReportLaws

@@ -6,8 +6,8 @@ use mathlib.Core.Bool.{true}
 use mathlib.Core.Path.{_≡_, ap}
 use Rattle.wire.specs.Bytes.{every}
 use Rattle.handshake.specs.Tables.{rows}
+use Rattle.handshake.specs.RowsLaws.{rows-next, rows-none, every-here, every-rest}
 use Rattle.messages.specs.declared.PayloadRow.{PayloadRow}
-use Rattle.messages_write.specs.RowsLaws.{rows-next, rows-none, every-here, every-rest}
 use Rattle.response_write.specs.Asked.{rowWithin}
 use Rattle.response_write.specs.ResponseLaws.{rowLength, rowsLength}
 

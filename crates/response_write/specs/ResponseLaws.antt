@@ -20,11 +20,11 @@ use Rattle.frame_write.specs.FrameWriteLaws.{length-frame}
 use Rattle.handshake.specs.Tables.{bytesAt, inside}
 use Rattle.handshake.specs.TablesLaws.{length-bytesAt}
 use Rattle.handshake.specs.Value.{entriesAsked}
+use Rattle.handshake.specs.RowsLaws.{length-rows}
 use Rattle.messages.specs.Value as Values
 use Rattle.messages.specs.Value.{PayloadValue, codeOf, payloadBytes, bodyBytes, payloadsWithin, countWithin, codeFree, messageAsked}
 use Rattle.messages.specs.Writes.{payloadRow, payloadRows, payloadOf, payloadInside, writeModifierResponse, valueOf, messageWhole, messageInside, messageWritten}
 use Rattle.messages.specs.declared.PayloadRow.{PayloadRow}
-use Rattle.messages_write.specs.RowsLaws.{length-rows}
 use Rattle.response_write.specs.Asked.{payloadsOf, rowWithin, responseBytes, responseWrittenFor}
 
 -- ---- what is said

@@ -1,7 +1,5 @@
 // Reads a session of mainnet from standard input and prints its report, a line for each step (document 01, "At the edges").
 // More than 65,536 bytes are `long`.
-ghost use Prim.Native.Nat.{_≤_};
-ghost use lib.ListN.{length};
 use libc::STDIN_FILENO;
 use libc::STDOUT_FILENO;
 use types::Network;
@@ -27,7 +25,8 @@ fn print_report(s: &[u8]) {
     while more {
         let mut line = [0u8; 192];
         let next = report::next_line(&mut line, s, Network::Mainnet, CAP, StreamPlace(at));
-        io::write_all(STDOUT_FILENO, &line[..next.len]);
+        let n = io::count(next.len as isize, &line);
+        io::write_all(STDOUT_FILENO, &line[..n]);
         at = next.at.0;
         more = next.more;
     }

@@ -1,4 +1,5 @@
 pub mod Magic
+pub mod MagicLaws
 pub mod Order
 pub mod OrderLaws
 pub mod Places

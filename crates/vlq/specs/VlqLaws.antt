@@ -11,6 +11,7 @@ use lib.ListN.{length, getD}
 use borrow.Author.Tests.{lt-ltb, le-ltb, le-leb, lt-leb}
 use Rattle.wire.specs.Numbers.{lt-or-ge}
 use Rattle.wire.specs.Reader.{Answer, got, refused, Reader, bind, pure, andThen, refuse, guard, byte}
+use Rattle.wire.specs.AnswerLaws.{no-answer}
 use Rattle.wire.specs.ReaderLaws.{byte-got, byte-missing, byte-outside}
 use Rattle.wire.specs.Stable.{Stable, AtLeast}
 use Rattle.wire.specs.StableLaws.{stable-then, stable-pure, stable-refuse, stable-cond, stable-guard, stable-byte, least-byte, least-none, least-then}
@@ -177,7 +178,7 @@ sum-shortest at v e (got sum next) b q =
     let k : next - at ≡ suc (e - at - 1) = omega (arith, b .0) in
     let l : v ≤ sum = omega arith in
     omega (arith, b .0, vlq-length (e - at - 1) v (omega (arith, rw k at (b .1))))
-sum-shortest at v e (refused m) b q = let z : _≡_ {A = ℕ} 0 1 = cc in absurd (omega arith)
+sum-shortest at v e (refused m) b q = no-answer q
 
 -- whatever is read to v takes at least the bytes of v
 pub vlq-shortest : (s : List ℕ) (at v e : ℕ) → vlq s at ≡ got v e → at + length (vlqBytes v) ≤ e

@@ -8,6 +8,7 @@ use Rattle.wire.specs.declared.Written.{Written}
 use Rattle.wire.specs.declared.Written.the-variants.{To, Refused}
 use Rattle.wire.specs.Output.{Question, written, outputAfter}
 use Rattle.wire.specs.OutputLaws.{Wrote, AllHold, Accepted, written-to, written-accepted}
+use Rattle.wire.specs.StandingLaws.{after-to, after-refused}
 use Rattle.vlq_write.specs.Asked.{writtenFor}
 
 module _ (before after : List Question) (out : List ℕ) (at : ℕ) (bs : List ℕ) {r : Written} where
@@ -20,12 +21,10 @@ module _ (before after : List Question) (out : List ℕ) (at : ℕ) (bs : List �
     accepted {e} p = written-accepted before after out at bs e (sym said ∙ p)
 
     pub stored : {e n : ℕ} {last : List ℕ} → r ≡ To e → Wrote out at bs n last → (r ≡ written before after out at bs) × (last ≡ outputAfter r out at bs)
-    unfolding outputAfter
-    stored p w = (said, rw p (w .bytes))
+    stored p w = (said, after-to p w)
 
     pub kept : {m : ℕ} → r ≡ Refused m → (r ≡ written before after out at bs) × (out ≡ outputAfter r out at bs)
-    unfolding outputAfter
-    kept p = (said, rw p)
+    kept p = (said, after-refused at bs p)
 
   -- a caller whose questions hold and who has room is not refused
   pub not-refused : {P : Type 0} {m : ℕ} → r ≡ written before after out at bs → AllHold before → AllHold after → at + length bs ≤ length out

@@ -3,9 +3,9 @@
 use Prim.Native.Nat.{ℕ, zero, suc, _+_, _*_, _/_, _%_, _^_, _<_}
 use native.Mathlib.Nat.{zero-add, add-mul, mul-assoc, mod-one, mod-eq-of-lt, pow-succ', zero-mul, suc-mul, mul-one}
 use native.Mathlib.Omega.{arith}
-use mathlib.Core.Bool.{Bool, true, false, _&&_, and-assoc}
+use mathlib.Core.Bool.{Bool, true, false, _&&_, _||_, and-assoc}
 use mathlib.Core.List.{List, [], _∷_, _++_, map, flatMap, append-assoc}
-use mathlib.Core.Logic.{_↔_}
+use mathlib.Core.Logic.{_↔_, _⊎_, inl, inr}
 use mathlib.Core.Path.{_≡_, refl, ap, ap₂, sym, _∙_}
 use lib.Arith.{digits-lt, digits-div, digits-mod, mod-mul}
 use lib.Dec.{eqb, ltb}
@@ -16,6 +16,10 @@ use Rattle.wire.specs.Bytes.{bigEndianFrom, bigEndian, bigEndianBytes, s
 pub and-true : (t u : Bool) → t && u ≡ true → (t ≡ true) × (u ≡ true)
 and-true true u e = (refl, e)
 and-true false u e = let z : _≡_ {A = ℕ} 0 1 = cc in absurd (omega arith)
+
+pub or-true : (t u : Bool) → t || u ≡ true → (t ≡ true) ⊎ (u ≡ true)
+or-true true u e = inl refl
+or-true false u e = inr e
 
 -- ---- every element
 

@@ -1,11 +1,15 @@
 pub mod Bytes
 pub mod BytesLaws
 pub mod Reader
+pub mod AnswerLaws
 pub mod ReaderLaws
+pub mod ListOfLaws
+pub mod LoopLaws
 pub mod Stable
 pub mod StableLaws
 pub mod Output
 pub mod OutputLaws
+pub mod StandingLaws
 pub mod ReadsBack
 pub mod ReadsBackLaws
 pub mod ListLaws

@@ -4,11 +4,14 @@ use native.Mathlib.Omega.{arith}
 use native.Mathlib.Nat.{sub-zero}
 use mathlib.Core.Bool.{Bool, true, false}
 use mathlib.Core.List.{List}
+use mathlib.Core.Logic.{_⊎_, inl, inr}
 use mathlib.Core.Path.{_≡_, refl, ap, sym, _∙_}
 use lib.ListN.{length, getD, take, drop, length-take, length-drop}
 use borrow.Author.Tests.{le-leb, lt-leb}
 use Rattle.wire.specs.declared.Part.{Part}
+use Rattle.wire.specs.Numbers.{lt-or-ge}
 use Rattle.wire.specs.Reader.{Answer, got, refused, Reader, bind, field, byte, Segment, part, partOf, mapAnswer, fold, andThen, pure}
+use Rattle.wire.specs.AnswerLaws.{no-answer}
 
 module _ {A : Type 0} (m n : ℕ) (v : List ℕ → ℕ → A) (s : List ℕ) (at : ℕ) where
   pub field-got : at + n ≤ length s → field m n v s at ≡ got (v s at) (at + n)
@@ -19,6 +22,19 @@ module _ {A : Type 0} (m n : ℕ) (v : List ℕ → ℕ → A) (s : List ℕ) (a
 
   pub field-outside : length s < at → field m n v s at ≡ refused 12
   field-outside h = rw (lt-leb at (length s) h)
+
+-- what a field read
+pub record Taken {A : Type 0} (n : ℕ) (v : List ℕ → ℕ → A) (p : Reader A) : Type 0 where
+  pub read : (s : List ℕ) (at : ℕ) (a : A) (e : ℕ) → p s at ≡ got a e → (at + n ≤ length s) × (a ≡ v s at) × (e ≡ at + n)
+
+pub field-taken : {A : Type 0} (m n : ℕ) (v : List ℕ → ℕ → A) → Taken n v (field m n v)
+field-taken {A} m n v = record { read = λ s at a e q. go s at a e q (lt-or-ge (length s) at) (lt-or-ge (length s) (at + n)) }
+  where
+    go : (s : List ℕ) (at : ℕ) (a : A) (e : ℕ) → field m n v s at ≡ got a e → (length s < at) ⊎ (at ≤ length s) → (length s < at + n) ⊎ (at + n ≤ length s)
+        → (at + n ≤ length s) × (a ≡ v s at) × (e ≡ at + n)
+    go s at a e q x (inr g) = let r : got (v s at) (at + n) ≡ got a e = sym (field-got m n v s at g) ∙ q in (g, cc, cc)
+    go s at a e q (inl h) (inl g) = no-answer (sym (field-outside m n v s at h) ∙ q)
+    go s at a e q (inr h) (inl g) = no-answer (sym (field-missing m n v s at h g) ∙ q)
 
 pub byte-got : (s : List ℕ) (at : ℕ) → at < length s → byte s at ≡ got (getD s at 0) (at + 1)
 byte-got s at h = field-got 1 1 (λ s at. getD s at 0) s at (omega arith)
@@ -47,6 +63,19 @@ module _ (n : ℕ) (s : List ℕ) (at : ℕ) where
   unfolding mapAnswer
   part-place h = rw (part-got h, length-part h)
 
+-- a part that was read
+pub record PartAt (n : ℕ) (s : List ℕ) (at : ℕ) (g : Segment) (next : ℕ) : Type 0 where
+  pub start : g .start ≡ at
+  pub bytes : g .bytes ≡ take n (drop at s)
+  pub inside : at + n ≤ length s
+  pub end : next ≡ at + n
+
+pub part-at : (n : ℕ) (s : List ℕ) (at : ℕ) {g : Segment} {next : ℕ} → part n s at ≡ got g next → PartAt n s at g next
+part-at n s at {g} {next} q =
+    let t : Taken n _ (part n) = field-taken {A = Segment} 1 n (λ s at. record { start = at; bytes = take n (drop at s) }) in
+    let r = t .read s at g next q in
+    record { start = ap (λ (g : Segment). g .start) (r .1); bytes = ap (λ (g : Segment). g .bytes) (r .1); inside = r .0; end = r .2 }
+
 -- ---- answers seen through a function
 
 pub map-value : {A B : Type 0} (f : A → B) (a : A) (next : ℕ) → mapAnswer f (got a next) ≡ got (f a) next
@@ -60,11 +89,11 @@ map-refusal f m = refl
 pub map-got : {A B : Type 0} (f : A → B) {r : Answer A} {b : B} {next : ℕ} → mapAnswer f r ≡ got b next → (a : A) × (r ≡ got a next) × (f a ≡ b)
 unfolding mapAnswer
 map-got f {r = got a n} {b = b} {next = next} e = (a, ap (got a) (cc), cc)
-map-got f {r = refused m} e = let z : _≡_ {A = ℕ} 0 1 = cc in absurd (omega arith)
+map-got f {r = refused m} e = no-answer e
 
 pub map-refused : {A B : Type 0} (f : A → B) {r : Answer A} {m : ℕ} → mapAnswer f r ≡ refused m → r ≡ refused m
 unfolding mapAnswer
-map-refused f {r = got a n} e = let z : _≡_ {A = ℕ} 0 1 = cc in absurd (omega arith)
+map-refused f {r = got a n} e = no-answer (sym e)
 map-refused f {r = refused n} e = ap refused (cc)
 
 -- ---- counted loops

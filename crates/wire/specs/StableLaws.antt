@@ -9,16 +9,14 @@ use lib.Dec.{T, leb}
 use lib.ListN.{length, getD, take, drop}
 use lib.Seq.{getD-take, length-take-le, take-length, take-take}
 use Rattle.wire.specs.Reader.{Answer, got, refused, Reader, bind, pure, andThen, place, refuse, guard, field, byte, Segment, part, fold, listOf}
+use Rattle.wire.specs.AnswerLaws.{no-answer}
 use Rattle.wire.specs.ReaderLaws.{field-got, field-missing}
 use Rattle.wire.specs.Stable.{Beyond, CutTo, kept, own, short, Stable, AtLeast, Local}
 
-impossible : {A : Type 0} {a : A} {e m : ℕ} {P : Type 0} → refused m ≡ got a e → P
-impossible q = let y : _≡_ {A = ℕ} 0 1 = cc in absurd (omega arith)
-
 cut-ends : {A : Type 0} {isCut : ℕ → Bool} {k : ℕ} {r w : Answer A} → CutTo isCut k r w → (a : A) (e : ℕ) → w ≡ got a e → e ≤ k
 cut-ends (kept {e = e′} h) a e q = let y : e′ ≡ e = cc in omega arith
-cut-ends own a e q = impossible q
-cut-ends (short b t) a e q = impossible q
+cut-ends own a e q = no-answer q
+cut-ends (short b t) a e q = no-answer q
 
 -- what is read ends within the bytes
 pub stable-ends : {A : Type 0} {isCut : ℕ → Bool} {p : Reader A} → Stable isCut p → (s : List ℕ) (at : ℕ) (a : A) (e : ℕ)
@@ -34,7 +32,7 @@ module _ {A B : Type 0} {isCut : ℕ → Bool} (f : A → Reader B) (hf : (a : A
       let u = m a d refl in
       let v : d ≤ e = hf a .moves s d b e (u .1) q in
       omega arith
-  bind-moves s at (refused n) m b e q = impossible q
+  bind-moves s at (refused n) m b e q = no-answer q
 
   later-beyond : (s : List ℕ) (k : ℕ) (a : A) (d : ℕ) → k < d → d ≤ length s → (r : Answer B) → f a s d ≡ r → Beyond k r
   later-beyond s k a d h u (got b e) q = let v : d ≤ e = hf a .moves s d b e u q in omega arith
@@ -63,7 +61,7 @@ module _ {A : Type 0} {isCut : ℕ → Bool} where
   stable-pure a = record { moves = λ s at b e h q. (let y : at ≡ e = cc in omega arith); cut = λ s at k h u. kept h }
 
   pub stable-refuse : (m : ℕ) → Stable {A = A} isCut (refuse m)
-  stable-refuse m = record { moves = λ s at b e h q. impossible q; cut = λ s at k h u. own }
+  stable-refuse m = record { moves = λ s at b e h q. no-answer q; cut = λ s at k h u. own }
 
   pub stable-cond : (b : Bool) {p q : Reader A} → Stable isCut p → Stable isCut q → Stable isCut (cond b p q)
   stable-cond true hp hq = hp
@@ -93,7 +91,7 @@ module _ {A : Type 0} (m n : ℕ) (v : List ℕ → ℕ → A) where
     where
       side : Dec (at + n ≤ length s) → e ≡ at + n
       side (yes g) = let r : got (v s at) (at + n) ≡ got a e = sym (field-got m n v s at g) ∙ q in cc
-      side (no g) = impossible (sym (field-missing m n v s at h (omega arith)) ∙ q)
+      side (no g) = no-answer (sym (field-missing m n v s at h (omega arith)) ∙ q)
 
   pub stable-field : {isCut : ℕ → Bool} → T (isCut m) → Local n v → Stable isCut (field m n v)
   stable-field {isCut} t l = record {
@@ -163,4 +161,4 @@ least-then {A} {B} {isCut} {p} {f} m n hp lp lf =
         let u = w a d refl in
         let v : d + n ≤ e = lf a .moves s d b e (u .1) q in
         omega arith
-    go s at (refused k) w b e q = impossible q
+    go s at (refused k) w b e q = no-answer q

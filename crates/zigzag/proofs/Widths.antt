@@ -1,12 +1,12 @@
 -- What the encoders and the decoders need, once for every width.
 -- A signed value is read back from its bits, as `toZ w (ofZ w n)`, which is n since n fits. Below 0 the encoder's -1 - n is `mag n`,
 -- and the decoder's -1 - h is -(h + 1).
-use Prim.Native.Nat.{ℕ, zero, suc, _+_, _-_, _*_, _/_, _%_, _^_, _<_}
+use Prim.Native.Nat.{ℕ, zero, suc, _+_, _*_, _/_, _%_, _^_, _<_}
 use mathlib.Core.Bool.{true, false, true≢false}
 use mathlib.Core.Path.{_≡_, refl, ap, sym, _∙_, subst}
 use native.Mathlib.Nat.{zero-add}
 use native.Mathlib.Omega.{arith}
-use borrow.Author.Tests.{le-ltb, ltb-true}
+use borrow.Author.Tests.{ltb-true}
 use lib.Dec.{T}
 use lib.IntN.{ℤ, pos, negsuc, natAbs, _-ℤ_}
 use lib.Signed.{ltZ, nonNeg}
@@ -15,9 +15,7 @@ use mir.Val.{Fits, SFits, hbits, toZ, ofZ}
 use mir.ValLaws.{pow-bits, toZ-pos, toZ-ofZ}
 use Rattle.zigzag.specs.Zigzag.{zigzagEncode, zigzagDecode}
 use Rattle.zigzag.specs.ZigzagLaws.{decode-even, decode-odd}
-
-minus-below : (k : ℕ) → negsuc 0 -ℤ negsuc k ≡ pos k
-minus-below k = let e : suc k - 1 ≡ k = omega arith in rw (le-ltb (suc k) 1 (omega arith), e)
+use Rattle.zigzag.specs.WidthLaws.{minus-below}
 
 minus-above : (h : ℕ) → negsuc 0 -ℤ pos h ≡ negsuc h
 minus-above zero = refl

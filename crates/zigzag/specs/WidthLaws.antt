@@ -3,8 +3,9 @@ use Prim.Native.Nat.{ℕ, zero, suc, _-_, _^_, _<_}
 use mathlib.Core.Logic.{_↔_}
 use mathlib.Core.Path.{_≡_}
 use native.Mathlib.Omega.{arith}
+use borrow.Author.Tests.{le-ltb}
 use lib.Dec.{leb→le, le→leb, ltb→lt, lt→ltb}
-use lib.IntN.{ℤ, pos, negsuc, negℤ}
+use lib.IntN.{ℤ, pos, negsuc, negℤ, _-ℤ_}
 use lib.Signed.{_≤ℤ_, _<ℤ_, mag}
 use mir.Syntax.{Width}
 use mir.Val.{SFits, bits, hbits}
@@ -37,3 +38,7 @@ half w = omega (arith, bits-suc w)
 -- what the logic knows of every i8 to i64
 pub fits-signed : (w : Width) (n : ℤ) → SFits w n ↔ Signed (bits w) n
 fits-signed w n = ((λ f. mag-signed (bits w) n (rw (half w) (f .sfits))), (λ s. record { sfits = rw (half w) at (signed-mag (bits w) n s) }))
+
+-- -1 - n for n below 0
+pub minus-below : (k : ℕ) → negsuc 0 -ℤ negsuc k ≡ pos k
+minus-below k = let e : suc k - 1 ≡ k = omega arith in rw (le-ltb (suc k) 1 (omega arith), e)

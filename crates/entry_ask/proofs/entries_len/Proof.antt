@@ -1,9 +1,9 @@
 -- `entry_ask::entries_len` meets its contract. The loop has counted the bytes of the rows before k, up to the limit and one more.
-use Prim.Native.Nat.{ℕ, _+_, _-_, _/_, _≤_, min}
-use native.Mathlib.Nat.{zero-add}
+use Prim.Native.Nat.{_+_, _-_, _/_, _≤_, min}
+use native.Mathlib.Nat.{sub-zero}
 use native.Mathlib.Omega.{arith}
 use mathlib.Core.List.{[], map, flatMap}
-use mathlib.Core.Path.{_≡_, refl, sym, ap, _∙_}
+use mathlib.Core.Path.{_≡_, refl, ap, _∙_}
 use denote.Ref.{now}
 use lib.ListN.{length, length-append}
 use borrow.Author.Needs.{needs}
@@ -12,8 +12,8 @@ use Rattle.handshake.specs.declared.EntryRow.{EntryRow}
 use Rattle.handshake.specs.Value.{EntryValue, entryBytes}
 use Rattle.handshake.specs.Tables.{rows, entryRow, entryOf, entriesOf}
 use Rattle.handshake.specs.TablesLaws.{every-row}
+use Rattle.handshake.specs.RowsLaws.{bytes-next, bytes-none}
 use Rattle.entry_ask.specs.Asked.{lent, rowHolds}
-use Rattle.entry_ask.specs.RowsLaws.{bytes-next, bytes-done, bytes-all}
 use Rattle.entry_ask.specs.AskedLaws.{own-entry, row-few}
 use Rattle.entry_ask.specs.declared.About.the-variants.{Count}
 use Rattle.entry_ask.proofs.entries_len.Statement.{statement}
@@ -22,7 +22,7 @@ use Rattle.entry_ask.proofs.entries_len.Tie as tie
 abbrev Inv-loop : tie.InvT-loop
 Inv-loop entries features buffer n m₀ k₀ m k =
     let l = lent entries features buffer in
-    (min (m + length (flatMap entryBytes (map (entryOf l) (rows (entryRow entries) (0 + k) (length entries / 12 - k))))) (limit + 1)
+    (min (m + length (flatMap entryBytes (map (entryOf l) (rows (entryRow entries) k (length entries / 12 - k))))) (limit + 1)
     ≡ min (length (flatMap entryBytes (map (entryOf l) (rows (entryRow entries) 0 (length entries / 12))))) (limit + 1))
     × (m ≤ limit + 1) × (n ≡ length entries / 12) × (k ≤ n)
 
@@ -31,9 +31,7 @@ abbrev μ-loop : tie.MeasureT-loop
 
 loop-holds : tie.Need-loop-holds Inv-loop μ-loop
 loop-holds c =
-    let a = c .before .before .before .args in
-    let l = (lent (now (a .entries)) (now (a .features)) (now (a .buffer))) in
-    (omega (arith, ap length (bytes-all entryBytes (entryOf l) (entryRow (l .entries)) 0 (length (l .entries) / 12))), omega arith, refl, omega arith)
+    (rw sub-zero (omega arith), omega arith, refl, omega arith)
 
 entry-at-requires : tie.Need-entry-at-requires Inv-loop μ-loop
 entry-at-requires c κs = omega arith
@@ -66,11 +64,11 @@ loop-again c =
     let l = (lent (now (a .entries)) (now (a .features)) (now (a .buffer))) in
     let f = entryRow (l .entries) in
     let n = length (l .entries) / 12 in
-    let next = ap length (bytes-next entryBytes (entryOf l) f 0 n (p .k) (omega arith)) in
-    let one : c .before .entry-len .result ≡ length (entryBytes (entryOf l (f (0 + p .k)))) =
+    let next = ap length (bytes-next entryBytes (entryOf l) f (p .k) n (omega arith)) in
+    let one : c .before .entry-len .result ≡ length (entryBytes (entryOf l (f (p .k)))) =
     c .before .entry-len .ensures .0 ∙ ap (λ (r : EntryRow). length (entryBytes (entryOf (lent [] (l .features) (l .buffer)) r))) (c .before .before .entry-at .ensures)
-    ∙ ap (λ (v : EntryValue). length (entryBytes v)) (own-entry l (f (p .k))) ∙ ap (λ (i : ℕ). length (entryBytes (entryOf l (f i)))) (sym (zero-add (p .k))) in
-    let both = length-append (entryBytes (entryOf l (f (0 + p .k)))) (flatMap entryBytes (map (entryOf l) (rows f (0 + (p .k + 1)) (n - (p .k + 1))))) in
+    ∙ ap (λ (v : EntryValue). length (entryBytes v)) (own-entry l (f (p .k))) in
+    let both = length-append (entryBytes (entryOf l (f (p .k)))) (flatMap entryBytes (map (entryOf l) (rows f (p .k + 1) (n - (p .k + 1))))) in
     (omega (arith, p .inv .0, p .inv .1, next, one, both, c .min-of .ensures), omega (arith, c .min-of .ensures), p .inv .2, omega arith)
 
 returns : tie.Need-returns Inv-loop μ-loop
@@ -79,7 +77,7 @@ returns c =
     let a = c .before .before .before .before .before .args in
     let p = c .before .loop in
     let l = (lent (now (a .entries)) (now (a .features)) (now (a .buffer))) in
-    let done = ap length (bytes-done entryBytes (entryOf l) (entryRow (l .entries)) 0 (length (l .entries) / 12) (p .k) (omega arith)) in
+    let done = ap length (bytes-none entryBytes (entryOf l) (entryRow (l .entries)) (p .k) (length (l .entries) / 12) (omega arith)) in
     omega (arith, p .inv .0, p .inv .1, done)
 
 pub entries-len-spec : {M : Type 1} → statement M

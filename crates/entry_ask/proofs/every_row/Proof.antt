@@ -1,6 +1,5 @@
 -- `entry_ask::every_row` meets its contract. The loop has come to row k; the rows before it are answered "yes".
-use Prim.Native.Nat.{ℕ, _-_, _/_}
-use native.Mathlib.Nat.{zero-add}
+use Prim.Native.Nat.{_-_, _/_}
 use native.Mathlib.Omega.{arith}
 use mathlib.Core.Path.{_≡_, refl, sym, ap, _∙_}
 use denote.Ref.{now}
@@ -8,19 +7,19 @@ use lib.ListN.{length}
 use borrow.Author.Needs.{needs}
 use borrow.Author.Tests.{not-true, not-false}
 use Rattle.handshake.specs.Tables.{entryRow}
+use Rattle.handshake.specs.RowsLaws.{Passed, passed-start, passed-next, passed-not, passed-end}
 use Rattle.entry_ask.specs.Asked.{rowHolds}
-use Rattle.entry_ask.specs.RowsLaws.{Passed, passed-start, passed-turn, passed-no, passed-end}
 use Rattle.entry_ask.proofs.every_row.Statement.{statement}
 use Rattle.entry_ask.proofs.every_row.Tie as tie
 
 abbrev Inv-loop : tie.InvT-loop
-Inv-loop about entries features buffer n k₀ k = (n ≡ length entries / 12) × Passed (rowHolds about features buffer) (entryRow entries) 0 (length entries / 12) k
+Inv-loop about entries features buffer n k₀ k = (n ≡ length entries / 12) × Passed (rowHolds about features buffer) (entryRow entries) (length entries / 12) k
 
 abbrev μ-loop : tie.MeasureT-loop
 μ-loop about entries features buffer n k₀ k = n - k
 
 loop-holds : tie.Need-loop-holds Inv-loop μ-loop
-loop-holds c = (refl, passed-start _ _ _ _)
+loop-holds c = (refl, passed-start _ _ _)
 
 entry-at-requires : tie.Need-entry-at-requires Inv-loop μ-loop
 entry-at-requires c κs = omega arith
@@ -30,8 +29,8 @@ returns c =
     let l = c .before .before .before .before .loop in
     let a = c .before .before .before .before .before .before .before .before .args in
     let t = rowHolds (a .about) (now (a .features)) (now (a .buffer)) in
-    let h = ap (λ (i : ℕ). t (entryRow (now (a .entries)) i)) (zero-add (l .k)) ∙ sym (ap t (c .before .before .entry-at .ensures)) ∙ sym (c .before .row-holds .ensures) ∙ not-true _ (c .if1 .taken) in
-    passed-no _ _ _ _ (l .k) (l .inv .1) (omega arith) h
+    let h = sym (ap t (c .before .before .entry-at .ensures)) ∙ sym (c .before .row-holds .ensures) ∙ not-true _ (c .if1 .taken) in
+    passed-not (l .inv .1) (omega arith) h
 
 add-k : tie.Need-add-k Inv-loop μ-loop
 add-k c = omega arith
@@ -44,11 +43,11 @@ loop-again c =
     let l = c .before .before .before .before .loop in
     let a = c .before .before .before .before .before .before .before .before .args in
     let t = rowHolds (a .about) (now (a .features)) (now (a .buffer)) in
-    let h = ap (λ (i : ℕ). t (entryRow (now (a .entries)) i)) (zero-add (l .k)) ∙ sym (ap t (c .before .before .entry-at .ensures)) ∙ sym (c .before .row-holds .ensures) ∙ not-false _ (c .if1 .left) in
-    (l .inv .0, passed-turn _ _ _ _ (l .k) (l .inv .1) (omega arith) h)
+    let h = sym (ap t (c .before .before .entry-at .ensures)) ∙ sym (c .before .row-holds .ensures) ∙ not-false _ (c .if1 .left) in
+    (l .inv .0, passed-next (l .inv .1) (omega arith) h)
 
 returns-2 : tie.Need-returns-2 Inv-loop μ-loop
-returns-2 c = let l = c .before .loop in passed-end _ _ _ _ (l .k) (l .inv .1) (omega arith)
+returns-2 c = let l = c .before .loop in passed-end (l .inv .1) (omega arith)
 
 pub every-row-spec : {M : Type 1} → statement M
 every-row-spec =

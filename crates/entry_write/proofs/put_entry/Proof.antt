@@ -6,10 +6,10 @@ use denote.Ref.{now}
 use lib.ListN.{length-set}
 use Rattle.wire.specs.OutputLaws.{wrote-then, wrote-byte, wrote-length}
 use Rattle.handshake.specs.Tables.{inside, entryInside}
+use Rattle.handshake.specs.TablesLaws.{address-part, own-range}
 use Rattle.entry_ask.specs.Asked.{lent}
 use Rattle.entry_ask.specs.LengthLaws.{entry-parts, length-entry}
 use Rattle.entry_ask.specs.AskedLaws.{own-short}
-use Rattle.entry_write.specs.ReadyLaws.{address-part, own-range}
 use Rattle.entry_write.proofs.put_entry.Statement.{statement}
 use Rattle.entry_write.proofs.put_entry.Tie as tie
 

@@ -2,24 +2,25 @@
 use native.Mathlib.Omega.{arith}
 use lib.ListN.{length-set}
 use borrow.Author.Needs.{needs}
-use Rattle.entry_write.specs.StoreLaws.{row-numbers, wrote-three}
+use Rattle.handshake.specs.TablesLaws.{numbers-of}
+use Rattle.entry_write.specs.StoreLaws.{wrote-three}
 use Rattle.entry_write.proofs.put_version.Statement.{statement}
 use Rattle.entry_write.proofs.put_version.Tie as tie
 
 cast-out : tie.Need-cast-out
-cast-out c = omega (arith, row-numbers (c .before .args .e) (c .before .pre .0) .major)
+cast-out c = omega (arith, numbers-of (c .before .args .e) (c .before .pre .0) .major)
 
 slice-write-out : tie.Need-slice-write-out
 slice-write-out c = omega arith
 
 cast-out-2 : tie.Need-cast-out-2
-cast-out-2 c = omega (arith, row-numbers (c .before .before .args .e) (c .before .before .pre .0) .minor)
+cast-out-2 c = omega (arith, numbers-of (c .before .before .args .e) (c .before .before .pre .0) .minor)
 
 slice-write-out-2 : tie.Need-slice-write-out-2
 slice-write-out-2 c = simp length-set (omega arith)
 
 cast-out-3 : tie.Need-cast-out-3
-cast-out-3 c = omega (arith, row-numbers (c .before .before .before .args .e) (c .before .before .before .pre .0) .patch)
+cast-out-3 c = omega (arith, numbers-of (c .before .before .before .args .e) (c .before .before .before .pre .0) .patch)
 
 slice-write-out-3 : tie.Need-slice-write-out-3
 slice-write-out-3 c = simp length-set (omega arith)

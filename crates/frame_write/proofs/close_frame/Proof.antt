@@ -2,7 +2,8 @@
 use denote.Ref.{now}
 use lib.ListN.{length}
 use borrow.Author.Needs.{needs}
-use Rattle.frame_write.specs.FrameWriteLaws.{asked-frame, after-to, after-refused}
+use Rattle.wire.specs.StandingLaws.{after-to, after-refused}
+use Rattle.frame_write.specs.FrameWriteLaws.{asked-frame}
 use Rattle.frame_write.proofs.close_frame.Statement.{statement}
 use Rattle.frame_write.proofs.close_frame.Tie as tie
 

@@ -3,7 +3,8 @@ use mathlib.Core.Path.{_∙_}
 use denote.Ref.{now}
 use lib.ListN.{length}
 use borrow.Author.Needs.{needs}
-use Rattle.frame_write.specs.FrameWriteLaws.{said-frame, asked-frame, after-to, after-refused}
+use Rattle.wire.specs.StandingLaws.{after-to, after-refused}
+use Rattle.frame_write.specs.FrameWriteLaws.{said-frame, asked-frame}
 use Rattle.frame_write.proofs.encode.Statement.{statement}
 use Rattle.frame_write.proofs.encode.Tie as tie
 

@@ -1,9 +1,9 @@
 -- `handshake_read::read_features` meets its contract: as many features are listed as the count says.
 use mathlib.Core.Path.{sym, ap, _∙_}
 use Rattle.wire.specs.ReaderLaws.{map-got, map-refused, map-value, map-refusal}
+use Rattle.wire.specs.ListOfLaws.{listed}
 use Rattle.vlq.specs.Answers.{byteAnswer}
 use Rattle.handshake_read.specs.Parts.{features}
-use Rattle.handshake_read.specs.PartsLaws.{listed}
 use Rattle.handshake_read.specs.Answers.{ended, endAnswer}
 use borrow.Author.Needs.{needs}
 use Rattle.handshake_read.proofs.read_features.Statement.{statement}
@@ -14,7 +14,7 @@ unfolding features
 returns c =
     let e1 = sym (c .before .before .before .before .before .before .before .read-byte .ensures) ∙ ap byteAnswer (c .before .before .before .before .before .count .given .1) in
     let e2 = map-got ended (sym (c .before .before .before .skip-features .ensures) ∙ ap endAnswer (c .before .e .given .1)) in
-    rw (e1, e2 .1, map-value, listed _ _ _ (e2 .1) .0)
+    rw (e1, e2 .1, map-value, listed _ _ _ _ (e2 .1) .0)
 
 returns-2 : tie.Need-returns-2
 unfolding features

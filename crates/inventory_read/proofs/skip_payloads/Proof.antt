@@ -1,4 +1,4 @@
--- `inventory_read::skip_payloads` meets its contract. The loop's invariant and what follows from it stand in `LoopLaws` and `PayloadsLoop`.
+-- `inventory_read::skip_payloads` meets its contract. The loop's invariant and what follows from it stand in `LoopLaws` of wire and `PayloadsLoop`.
 use Prim.Native.Nat.{ℕ, _-_}
 use mathlib.Core.Path.{sym, ap, _∙_}
 use native.Mathlib.Omega.{arith}
@@ -8,7 +8,7 @@ use Rattle.wire.specs.ReaderLaws.{map-got, map-refused}
 use Rattle.messages.specs.Message.{payload, total}
 use Rattle.inventory_read.specs.declared.Payload.{Payload}
 use Rattle.inventory_read.specs.Answers.{payloadSum, payloadAnswer}
-use Rattle.inventory_read.specs.LoopLaws.{ListSoFar, list-start, list-end}
+use Rattle.wire.specs.LoopLaws.{ListSoFar, list-start, list-end}
 use Rattle.inventory_read.proofs.PayloadsLoop.{payloads-again, payloads-refused}
 use borrow.Author.Needs.{needs}
 use Rattle.inventory_read.proofs.skip_payloads.Statement.{statement}

@@ -1,4 +1,4 @@
--- `messages_read::count_bogus` meets its contract. The loop's invariant and what follows from it stand in `LoopLaws`; no more entries are bogus
+-- `messages_read::count_bogus` meets its contract. The loop's invariant and what follows from it stand in `LoopLaws` of wire; no more entries are bogus
 -- than are read, so that their number fits.
 use Prim.Native.Nat.{_-_, _≤_}
 use mathlib.Core.Path.{sym, ap, _∙_}
@@ -9,7 +9,7 @@ use Rattle.handshake.specs.Entry.{entry}
 use Rattle.handshake_read.specs.declared.PeerSpec.{PeerSpec}
 use Rattle.handshake_read.specs.Answers.{peerSpecOf, entryAnswer}
 use Rattle.messages.specs.Bogus.{bogusCount}
-use Rattle.inventory_read.specs.LoopLaws.{ListSoFar, list-start, list-again, list-refused, list-end}
+use Rattle.wire.specs.LoopLaws.{ListSoFar, list-start, list-again, list-refused, list-end}
 use Rattle.messages_read.proofs.BogusLoop.{bogus-more, one-more}
 use Rattle.messages_read.proofs.count_bogus.Statement.{statement}
 use Rattle.messages_read.proofs.count_bogus.Tie as tie

@@ -1,4 +1,4 @@
--- `messages_read::skip_entries` meets its contract. The loop's invariant and what follows from it stand in `LoopLaws`.
+-- `messages_read::skip_entries` meets its contract. The loop's invariant and what follows from it stand in `LoopLaws` of wire.
 use Prim.Native.Nat.{_-_}
 use mathlib.Core.Path.{refl, sym, ap, _∙_}
 use native.Mathlib.Omega.{arith}
@@ -7,7 +7,7 @@ use Rattle.wire.specs.ReaderLaws.{map-got, map-refused}
 use Rattle.handshake.specs.Entry.{entry}
 use Rattle.handshake_read.specs.Answers.{peerSpecOf, entryAnswer}
 use Rattle.messages_read.specs.Answers.{ended}
-use Rattle.inventory_read.specs.LoopLaws.{ListSoFar, list-start, list-again, list-refused, list-end}
+use Rattle.wire.specs.LoopLaws.{ListSoFar, list-start, list-again, list-refused, list-end}
 use Rattle.messages_read.proofs.skip_entries.Statement.{statement}
 use Rattle.messages_read.proofs.skip_entries.Tie as tie
 

@@ -5,7 +5,7 @@ use lib.Dec.{leb}
 use lib.ListN.{length, getD}
 use borrow.Author.Needs.{needs}
 use borrow.Author.Tests.{le-leb, lt-leb}
-use Rattle.messages_write.specs.RowsLaws.{Passed, passed-start, passed-next, passed-not, passed-end}
+use Rattle.handshake.specs.RowsLaws.{Passed, passed-start, passed-next, passed-not, passed-end}
 use Rattle.messages_write.proofs.ids_inside.Statement.{statement}
 use Rattle.messages_write.proofs.ids_inside.Tie as tie
 

@@ -4,8 +4,8 @@ use native.Mathlib.Omega.{arith}
 use denote.Ref.{now}
 use lib.ListN.{length, getD}
 use borrow.Author.Needs.{needs}
+use Rattle.handshake.specs.PuttingLaws.{putting-start, putting-end}
 use Rattle.messages.specs.Writes.{idsOf}
-use Rattle.messages_write.specs.PuttingLaws.{putting-start, putting-end}
 use Rattle.messages_write.proofs.IdsLoop.{PuttingIds, id-inside, id-room, id-stored}
 use Rattle.messages_write.proofs.put_rows.Statement.{statement}
 use Rattle.messages_write.proofs.put_rows.Tie as tie

@@ -2,8 +2,8 @@
 use denote.Ref.{now}
 use lib.ListN.{length}
 use borrow.Author.Needs.{needs}
-use Rattle.frame_write.specs.FrameWriteLaws.{after-refused}
-use Rattle.messages_write.specs.MessageWriteLaws.{asked-ids, after-put}
+use Rattle.wire.specs.StandingLaws.{after-put, after-refused}
+use Rattle.messages_write.specs.MessageWriteLaws.{asked-ids}
 use Rattle.messages_write.proofs.write_ids.Statement.{statement}
 use Rattle.messages_write.proofs.write_ids.Tie as tie
 

@@ -2,7 +2,7 @@
 use mathlib.Core.Path.{_∙_}
 use denote.Ref.{now}
 use borrow.Author.Needs.{needs}
-use Rattle.frame_write.specs.FrameWriteLaws.{after-refused}
+use Rattle.wire.specs.StandingLaws.{after-refused}
 use Rattle.messages.specs.Value.{codeOf, bodyBytes}
 use Rattle.messages.specs.Writes.{valueOf}
 use Rattle.messages_write.specs.MessageWriteLaws.{said-unknown, stored-unknown}

@@ -2,11 +2,10 @@
 use mathlib.Core.Path.{sym, _∙_}
 use denote.Ref.{now}
 use borrow.Author.Needs.{needs}
-use Rattle.frame_write.specs.FrameWriteLaws.{after-refused}
+use Rattle.wire.specs.StandingLaws.{after-put, after-refused}
 use Rattle.entry_ask.specs.Asked.{lent}
 use Rattle.messages.specs.Value.{codeOf}
 use Rattle.messages.specs.Writes.{valueOf}
-use Rattle.messages_write.specs.MessageWriteLaws.{after-put}
 use Rattle.peers_write.specs.PeersLaws.{said-peers, asked-peers}
 use Rattle.peers_write.proofs.write_peers.Statement.{statement}
 use Rattle.peers_write.proofs.write_peers.Tie as tie

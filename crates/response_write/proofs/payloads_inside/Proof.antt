@@ -7,8 +7,8 @@ use lib.Dec.{leb}
 use lib.ListN.{length}
 use borrow.Author.Needs.{needs}
 use borrow.Author.Tests.{not-true, not-false}
+use Rattle.handshake.specs.RowsLaws.{Passed, passed-start, passed-next, passed-not, passed-end}
 use Rattle.messages.specs.Writes.{payloadRow}
-use Rattle.messages_write.specs.RowsLaws.{Passed, passed-start, passed-next, passed-not, passed-end}
 use Rattle.response_write.proofs.payloads_inside.Statement.{statement}
 use Rattle.response_write.proofs.payloads_inside.Tie as tie
 

@@ -6,8 +6,8 @@ use lib.ListN.{length}
 use borrow.Author.Needs.{needs}
 use borrow.Author.Tests.{le-leb, lt-leb}
 use Rattle.vlq.specs.Vlq.{limit}
+use Rattle.handshake.specs.RowsLaws.{Passed, passed-start, passed-next, passed-not, passed-end}
 use Rattle.messages.specs.Writes.{payloadRow}
-use Rattle.messages_write.specs.RowsLaws.{Passed, passed-start, passed-next, passed-not, passed-end}
 use Rattle.response_write.specs.Asked.{rowWithin}
 use Rattle.response_write.proofs.payloads_within.Statement.{statement}
 use Rattle.response_write.proofs.payloads_within.Tie as tie

@@ -3,9 +3,9 @@ use Prim.Native.Nat.{_-_, _/_}
 use native.Mathlib.Omega.{arith}
 use lib.ListN.{length}
 use borrow.Author.Needs.{needs}
+use Rattle.handshake.specs.PuttingLaws.{Putting, putting-start, putting-passed, putting-room, putting-turn, putting-end}
 use Rattle.messages.specs.Value.{payloadBytes}
 use Rattle.messages.specs.Writes.{payloadRow, payloadOf, payloadInside}
-use Rattle.messages_write.specs.PuttingLaws.{Putting, putting-start, putting-passed, putting-room, putting-turn, putting-end}
 use Rattle.response_write.proofs.put_rows.Statement.{statement}
 use Rattle.response_write.proofs.put_rows.Tie as tie
 

@@ -5,8 +5,7 @@ use lib.ListN.{length}
 use borrow.Author.Needs.{needs}
 use Rattle.messages.specs.Value.{codeOf}
 use Rattle.messages.specs.Writes.{valueOf}
-use Rattle.frame_write.specs.FrameWriteLaws.{after-refused}
-use Rattle.messages_write.specs.MessageWriteLaws.{after-put}
+use Rattle.wire.specs.StandingLaws.{after-put, after-refused}
 use Rattle.response_write.specs.ResponseLaws.{said-response, asked-response}
 use Rattle.response_write.proofs.write_modifier_response.Statement.{statement}
 use Rattle.response_write.proofs.write_modifier_response.Tie as tie

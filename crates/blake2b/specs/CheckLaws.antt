@@ -1,4 +1,4 @@
--- The check of any body has four bytes: BLAKE2b's state keeps its eight words, which are 64 bytes.
+-- The check of any bytes has four bytes: BLAKE2b's state keeps its eight words, which are 64 bytes.
 use Prim.Native.Nat.{ℕ, zero, suc, _+_, _-_, _*_, _≤_}
 use native.Mathlib.Omega.{arith}
 use mathlib.Core.Bool.{Bool, true, false}
@@ -22,12 +22,12 @@ length-h0 : (nn : ℕ) → length (h0 nn) ≡ 8
 unfolding h0 IV
 length-h0 nn = simp length-set
 
-length-bytes : (n x : ℕ) → length (bytes n x) ≡ n
+pub length-bytes : (n x : ℕ) → length (bytes n x) ≡ n
 unfolding bytes
 length-bytes zero x = refl
 length-bytes (suc n) x = ap suc (length-bytes n _)
 
-length-unwords : (l : List ℕ) → length (unwords l) ≡ 8 * length l
+pub length-unwords : (l : List ℕ) → length (unwords l) ≡ 8 * length l
 unfolding unwords
 length-unwords [] = refl
 length-unwords (x ∷ l) = omega (arith, length-append (bytes 8 x) (unwords l), length-bytes 8 x, length-unwords l)
@@ -42,5 +42,5 @@ length-blake2b nn input small =
     let words : length last ≡ 8 = length-F h _ _ _ ∙ before in
     length-take-le nn (unwords last) (omega (arith, length-unwords last))
 
-pub length-check : (body : List ℕ) → length (check body) ≡ 4
-length-check body = length-take-le 4 (blake2b 32 body) (omega (arith, length-blake2b 32 body (omega arith)))
+pub length-check : (s : List ℕ) → length (check s) ≡ 4
+length-check s = length-take-le 4 (blake2b 32 s) (omega (arith, length-blake2b 32 s (omega arith)))

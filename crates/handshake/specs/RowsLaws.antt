@@ -1,6 +1,6 @@
 -- Rows of a table, one after the other from i on: what a loop over n rows has still to do.
 use Prim.Native.Nat.{ℕ, zero, suc, _+_, _-_, _≤_, _<_}
-use native.Mathlib.Nat.{sub-zero}
+use native.Mathlib.Nat.{add-zero, sub-zero}
 use native.Mathlib.Omega.{arith}
 use mathlib.Core.Bool.{Bool, true, false, _&&_}
 use mathlib.Core.List.{List, [], _∷_, _++_, map, flatMap}
@@ -8,7 +8,8 @@ use mathlib.Core.Path.{_≡_, refl, sym, ap, _∙_}
 use lib.ListN.{length}
 use Rattle.wire.specs.Bytes.{every}
 use Rattle.wire.specs.BytesLaws.{and-true}
 use Rattle.handshake.specs.Tables.{rows}
+use Rattle.handshake.specs.TablesLaws.{every-row}
 
 module _ {A : Type 0} (f : ℕ → A) where
   pub length-rows : (i n : ℕ) → length (rows f i n) ≡ n
@@ -23,6 +24,23 @@ module _ {A : Type 0} (f : ℕ → A) where
   pub rows-none : (i n : ℕ) → n ≤ i → rows f i (n - i) ≡ []
   unfolding rows
   rows-none i n h = let e : n - i ≡ 0 = omega arith in rw e
+
+  rows-past : (b i n : ℕ) → rows (λ k. f (b + k)) i n ≡ rows f (b + i) n
+  unfolding rows
+  rows-past b i zero = refl
+  rows-past b i (suc n) =
+      let e : b + (i + 1) ≡ b + i + 1 = omega arith in
+      ap (λ (l : List A). f (b + i) ∷ l) (rows-past b (i + 1) n ∙ ap (λ (k : ℕ). rows f k n) e)
+
+  -- the n rows from b on, counted from 0
+  pub rows-from : (b n : ℕ) → rows (λ k. f (b + k)) 0 n ≡ rows f b n
+  rows-from b n = rows-past b 0 n ∙ ap (λ (k : ℕ). rows f k n) (add-zero b)
+
+-- what holds of every row holds of each of some of them
+pub every-rows : {A : Type 0} (test : A → Bool) (f : ℕ → A) (n i m : ℕ) → every test (rows f 0 n) ≡ true → i + m ≤ n → every test (rows f i m) ≡ true
+unfolding every rows
+every-rows test f n i zero h g = refl
+every-rows test f n i (suc m) h g = rw (every-row test f n 0 i h (omega arith) (omega arith)) (every-rows test f n (i + 1) m h (omega arith))
 
 -- ---- a test of every row: those before i passed it
 

@@ -2,9 +2,9 @@
 use Prim.Native.Nat.{ℕ, _+_, _≤_, _<_}
 use mathlib.Core.List.{List, [], _∷_, _++_}
 use mathlib.Core.Path.{_≡_, refl, ap, sym, _∙_}
 use Rattle.wire.specs.Reader.{got, refused, Reader, mapAnswer, listOf}
 use Rattle.wire.specs.ReaderLaws.{FoldSoFar, fold-start, fold-turn, fold-refused, fold-end, map-value, map-refusal}
-use Rattle.inventory_read.specs.ListOfLaws.{turn}
+use Rattle.wire.specs.ListOfLaws.{turn}
 
 -- i of the n items that p reads are read; b is what is seen of them
 pub record ListSoFar {A B : Type 0} (p : List A → Reader A) (see : List A → B) (s : List ℕ) (n at₀ : ℕ) (b : B) (at i : ℕ) : Type 0 where

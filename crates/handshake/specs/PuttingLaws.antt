@@ -9,8 +9,8 @@ use mathlib.Core.Path.{_≡_}
 use lib.ListN.{length}
 use Rattle.wire.specs.Bytes.{every}
 use Rattle.wire.specs.OutputLaws.{Wrote, Writing, writing-start, writing-turn, writing-end, writing-room}
 use Rattle.handshake.specs.Tables.{rows}
-use Rattle.messages_write.specs.RowsLaws.{every-here, every-rest, bytes-next, bytes-none}
+use Rattle.handshake.specs.RowsLaws.{every-here, every-rest, bytes-next, bytes-none}
 
 -- a row is f k, its value is value (f k), and the value's bytes are stored
 pub record Putting {A B : Type 0} (bytes : B → List ℕ) (value : A → B) (f : ℕ → A) (test : A → Bool) (n : ℕ) (out₀ : List ℕ) (at : ℕ) (out : List ℕ) (o i : ℕ) : Type 0 where
