@@ -17,11 +17,21 @@ pub enum Value {
 
 impl Value {
     /// Numbers, then the items that they count.
-    pub fn counted<const N: usize>(
-        numbers: [u64; N],
+    pub fn counted(
+        numbers: impl IntoIterator<Item = u64>,
         items: impl IntoIterator<Item = Value>,
     ) -> Value {
-        Value::List(numbers.map(Value::Unsigned).into_iter().chain(items).collect())
+        Value::List(numbers.into_iter().map(Value::Unsigned).chain(items).collect())
+    }
+
+    /// The numbers of a value, one after the other, bytes being told by their length.
+    pub fn numbers(&self) -> Vec<u64> {
+        match self {
+            Value::Unsigned(n) => vec![*n],
+            Value::Bytes(bytes) => vec![bytes.len() as u64],
+            Value::List(values) => values.iter().flat_map(Value::numbers).collect(),
+            other => panic!("{other} is no number"),
+        }
     }
 
     /// A number, then bytes with the place where they stand.

@@ -14,9 +14,9 @@ ghost use Rattle.address_sanity.specs.Bogus.{bogus};
 ghost use Rattle.blake2b.specs.Blake2b.{blake2b256, check};
 ghost use Rattle.exports.specs.Results.{numberOf, arrayAfter, valueNext, partNext, writtenNumber, endAfter, bit, networkOf};
 
-mod bodies;
-mod frames;
-mod handshakes;
+pub mod bodies;
+pub mod frames;
+pub mod handshakes;
 mod sessions;
 mod writers;
 

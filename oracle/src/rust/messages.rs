@@ -79,6 +79,13 @@ fn peers(body: &[u8], cap: u64, mainnet: u8) -> Reading {
     Ok((Value::counted(numbers, entries), places[specs.len()]))
 }
 
+/// How many entries a Peers body has, and how many of them have a bogus address, as a line says it.
+pub fn counts(body: &[u8], cap: u64, mainnet: u8) -> io::Result<String> {
+    let specs = parse_peers_body(body, cap as usize)?;
+    let bogus = specs.iter().filter(|spec| is_bogus(spec, mainnet)).count();
+    Ok(format!(" entries {} bogus {bogus}", specs.len()))
+}
+
 /// No address isn't bogus.
 fn is_bogus(spec: &PeerSpec, mainnet: u8) -> bool {
     spec.address.is_some_and(|address| is_bogus_address(address, network(mainnet)))

@@ -73,3 +73,37 @@ pub fn stopped(layer: &'static str, number: u64, start: u64) -> Value {
     let words = [Value::Word("stop"), Value::Word(layer)];
     Value::List(words.into_iter().chain([number, start].map(Value::Unsigned)).collect())
 }
+
+/// The lines that the program `session` prints of a session.
+pub fn lines(s: &[u8], mainnet: u8, cap: u64) -> String {
+    let mut text = String::new();
+    let mut at = 0;
+    loop {
+        match line(s, at, mainnet, cap) {
+            Ok((line, end)) => {
+                text += &format!("{line}\n");
+                at = end;
+            }
+            Err((_, _)) if at > 0 && at == s.len() as u64 => return text + &format!("end {at}\n"),
+            Err((layer, e)) => return text + &format!("stop {layer} {} {at}\n", number(&e)),
+        }
+    }
+}
+
+/// The line of the item at a place and the item's end, or the layer and the error that stop the walk.
+fn line(s: &[u8], at: u64, mainnet: u8, cap: u64) -> Result<(String, u64), (&'static str, io::Error)> {
+    if at == 0 {
+        let (spec, end) = entries::parsed(s).map_err(|e| ("handshake", e))?;
+        let v = spec.version;
+        let verdict = entries::verdict(&spec, mainnet);
+        let version = format!("{}.{}.{}", v.major, v.minor, v.patch);
+        return Ok((format!("handshake 0 {end} version {version} verdict {verdict}"), end));
+    }
+    let (frame, end) = frames::decoded(s, at, mainnet).map_err(|e| ("frame", e))?;
+    messages::opened(frame.code, &frame.body, cap, mainnet).map_err(|e| ("body", e))?;
+    let peers = match frame.code {
+        2 => messages::counts(&frame.body, cap, mainnet).map_err(|e| ("body", e))?,
+        _ => String::new(),
+    };
+    Ok((format!("message {at} {end} code {}{peers}", frame.code), end))
+}

@@ -1,0 +1,581 @@
+//! The exported functions, declared, and each with a safe form: slices for pointers and lengths, a
+//! `Result` for the refusal number and the result array. All unsafe code of the crate is here.
+
+use crate::{Error, HandshakeConfig, Network, ProxyMode};
+
+// Nothing checks these declarations against the library. A slice passes as a pointer and a length,
+// an array as a pointer.
+extern "C" {
+    fn haspeljo_read_byte(s: *const u8, n: usize, at: usize, r: *mut [u64; 2]) -> u8;
+    fn haspeljo_read_vlq(s: *const u8, n: usize, at: usize, r: *mut [u64; 2]) -> u8;
+    fn haspeljo_read_vlq_length(s: *const u8, n: usize, at: usize, r: *mut [u64; 2]) -> u8;
+    fn haspeljo_read_short_string(s: *const u8, n: usize, at: usize, r: *mut [u64; 3]) -> u8;
+    fn haspeljo_read_part(s: *const u8, n: usize, at: usize, count: usize, r: *mut [u64; 3]) -> u8;
+    fn haspeljo_write_vlq(out: *mut u8, n: usize, at: usize, value: u64, r: *mut [u64; 1]) -> u8;
+    fn haspeljo_write_short_string(
+        out: *mut u8,
+        n: usize,
+        at: usize,
+        s: *const u8,
+        s_n: usize,
+        r: *mut [u64; 1],
+    ) -> u8;
+    fn haspeljo_write_part(
+        out: *mut u8,
+        n: usize,
+        at: usize,
+        s: *const u8,
+        s_n: usize,
+        r: *mut [u64; 1],
+    ) -> u8;
+    fn haspeljo_zigzag_encode(value: i32) -> u32;
+    fn haspeljo_zigzag_decode(value: u32) -> i32;
+    fn haspeljo_zigzag_encode_i64(value: i64) -> u64;
+    fn haspeljo_zigzag_decode_i64(value: u64) -> i64;
+    fn haspeljo_is_utf8(s: *const u8, n: usize) -> u8;
+    fn haspeljo_is_bogus_v4(address: u32, port: u16, mainnet: u8) -> u8;
+    fn haspeljo_is_bogus_v6(high: u64, low: u64, port: u16, mainnet: u8) -> u8;
+    fn haspeljo_blake2b256(s: *const u8, n: usize, r: *mut [u8; 32]);
+    fn haspeljo_frame_check(s: *const u8, n: usize, r: *mut [u8; 4]);
+
+    fn haspeljo_parse(s: *const u8, n: usize, r: *mut [u64; 15]) -> u8;
+    fn haspeljo_measure_size(s: *const u8, n: usize, r: *mut [u64; 1]) -> u8;
+    fn haspeljo_parse_peer_entry(s: *const u8, n: usize, at: usize, r: *mut [u64; 15]) -> u8;
+    fn haspeljo_read_feature(s: *const u8, n: usize, at: usize, r: *mut [u64; 4]) -> u8;
+    fn haspeljo_validate_peer(s: *const u8, n: usize, mainnet: u8, r: *mut [u64; 2]) -> u8;
+    fn haspeljo_validate_entry(
+        s: *const u8,
+        n: usize,
+        at: usize,
+        mainnet: u8,
+        r: *mut [u64; 2],
+    ) -> u8;
+    fn haspeljo_rest_api_url(s: *const u8, n: usize, at: usize, r: *mut [u64; 4]) -> u8;
+
+    fn haspeljo_decode(s: *const u8, n: usize, mainnet: u8, at: usize, r: *mut [u64; 4]) -> u8;
+    fn haspeljo_from_frame(
+        code: u8,
+        body: *const u8,
+        n: usize,
+        cap: usize,
+        mainnet: u8,
+        r: *mut [u64; 5],
+    ) -> u8;
+    fn haspeljo_read_payload(
+        body: *const u8,
+        n: usize,
+        at: usize,
+        total: usize,
+        r: *mut [u64; 5],
+    ) -> u8;
+    fn haspeljo_step(
+        s: *const u8,
+        n: usize,
+        mainnet: u8,
+        cap: usize,
+        at: usize,
+        r: *mut [u64; 11],
+    ) -> u8;
+
+    fn haspeljo_write_entry(
+        out: *mut u8,
+        n: usize,
+        at: usize,
+        entries: *const u32,
+        entries_n: usize,
+        features: *const u32,
+        features_n: usize,
+        buffer: *const u8,
+        buffer_n: usize,
+        index: usize,
+        r: *mut [u64; 1],
+    ) -> u8;
+    fn haspeljo_write_handshake(
+        out: *mut u8,
+        n: usize,
+        at: usize,
+        timestamp: u64,
+        entries: *const u32,
+        entries_n: usize,
+        features: *const u32,
+        features_n: usize,
+        buffer: *const u8,
+        buffer_n: usize,
+        index: usize,
+        r: *mut [u64; 1],
+    ) -> u8;
+    fn haspeljo_build(
+        out: *mut u8,
+        n: usize,
+        at: usize,
+        mainnet: u8,
+        light: u8,
+        statetype: u8,
+        verifying: u8,
+        blocks: i32,
+        major: u8,
+        minor: u8,
+        patch: u8,
+        kind: u8,
+        high: u64,
+        low: u64,
+        port: u16,
+        timestamp: u64,
+        session: i64,
+        agent: *const u8,
+        agent_n: usize,
+        name: *const u8,
+        name_n: usize,
+        r: *mut [u64; 1],
+    ) -> u8;
+    fn haspeljo_encode(
+        out: *mut u8,
+        n: usize,
+        at: usize,
+        mainnet: u8,
+        code: u8,
+        body: *const u8,
+        body_n: usize,
+        r: *mut [u64; 1],
+    ) -> u8;
+    fn haspeljo_write_get_peers(
+        out: *mut u8,
+        n: usize,
+        at: usize,
+        mainnet: u8,
+        r: *mut [u64; 1],
+    ) -> u8;
+    fn haspeljo_write_peers(
+        out: *mut u8,
+        n: usize,
+        at: usize,
+        mainnet: u8,
+        cap: usize,
+        entries: *const u32,
+        entries_n: usize,
+        features: *const u32,
+        features_n: usize,
+        buffer: *const u8,
+        buffer_n: usize,
+        r: *mut [u64; 1],
+    ) -> u8;
+    fn haspeljo_write_modifier_request(
+        out: *mut u8,
+        n: usize,
+        at: usize,
+        mainnet: u8,
+        kind: u8,
+        ids: *const u32,
+        ids_n: usize,
+        buffer: *const u8,
+        buffer_n: usize,
+        r: *mut [u64; 1],
+    ) -> u8;
+    fn haspeljo_write_modifier_response(
+        out: *mut u8,
+        n: usize,
+        at: usize,
+        mainnet: u8,
+        kind: u8,
+        payloads: *const u32,
+        payloads_n: usize,
+        buffer: *const u8,
+        buffer_n: usize,
+        r: *mut [u64; 1],
+    ) -> u8;
+    fn haspeljo_write_inv(
+        out: *mut u8,
+        n: usize,
+        at: usize,
+        mainnet: u8,
+        kind: u8,
+        ids: *const u32,
+        ids_n: usize,
+        buffer: *const u8,
+        buffer_n: usize,
+        r: *mut [u64; 1],
+    ) -> u8;
+    fn haspeljo_write_sync_info(
+        out: *mut u8,
+        n: usize,
+        at: usize,
+        mainnet: u8,
+        body: *const u8,
+        body_n: usize,
+        r: *mut [u64; 1],
+    ) -> u8;
+    fn haspeljo_write_unknown(
+        out: *mut u8,
+        n: usize,
+        at: usize,
+        mainnet: u8,
+        code: u8,
+        body: *const u8,
+        body_n: usize,
+        r: *mut [u64; 1],
+    ) -> u8;
+}
+
+/// The result array of an accepted call.
+fn call<const N: usize>(f: impl FnOnce(&mut [u64; N]) -> u8) -> Result<[u64; N], Error> {
+    let mut r = [0; N];
+    match f(&mut r) {
+        0 => Ok(r),
+        number => Err(Error::of(number).expect("a refusal number of 1 to 16")),
+    }
+}
+
+/// The end of an accepted write.
+fn write(f: impl FnOnce(&mut [u64; 1]) -> u8) -> Result<usize, Error> {
+    let [end] = call(f)?;
+    Ok(end as usize)
+}
+
+// SAFETY, of every call below: each pointer and its length come from one slice that is borrowed for
+// the call, a lent output and a result array are borrowed mutably, so that nothing else overlaps
+// them, and the proved functions read and write within these alone and keep no pointer.
+
+pub fn read_byte(s: &[u8], at: usize) -> Result<[u64; 2], Error> {
+    call(|r| unsafe { haspeljo_read_byte(s.as_ptr(), s.len(), at, r) })
+}
+
+pub fn read_vlq(s: &[u8], at: usize) -> Result<[u64; 2], Error> {
+    call(|r| unsafe { haspeljo_read_vlq(s.as_ptr(), s.len(), at, r) })
+}
+
+pub fn read_vlq_length(s: &[u8], at: usize) -> Result<[u64; 2], Error> {
+    call(|r| unsafe { haspeljo_read_vlq_length(s.as_ptr(), s.len(), at, r) })
+}
+
+pub fn read_short_string(s: &[u8], at: usize) -> Result<[u64; 3], Error> {
+    call(|r| unsafe { haspeljo_read_short_string(s.as_ptr(), s.len(), at, r) })
+}
+
+pub fn read_part(s: &[u8], at: usize, count: usize) -> Result<[u64; 3], Error> {
+    call(|r| unsafe { haspeljo_read_part(s.as_ptr(), s.len(), at, count, r) })
+}
+
+pub fn write_vlq(out: &mut [u8], at: usize, value: u64) -> Result<usize, Error> {
+    write(|r| unsafe { haspeljo_write_vlq(out.as_mut_ptr(), out.len(), at, value, r) })
+}
+
+pub fn write_short_string(out: &mut [u8], at: usize, s: &[u8]) -> Result<usize, Error> {
+    write(|r| unsafe {
+        haspeljo_write_short_string(out.as_mut_ptr(), out.len(), at, s.as_ptr(), s.len(), r)
+    })
+}
+
+pub fn write_part(out: &mut [u8], at: usize, s: &[u8]) -> Result<usize, Error> {
+    write(|r| unsafe {
+        haspeljo_write_part(out.as_mut_ptr(), out.len(), at, s.as_ptr(), s.len(), r)
+    })
+}
+
+pub fn zigzag_encode(value: i32) -> u32 {
+    unsafe { haspeljo_zigzag_encode(value) }
+}
+
+pub fn zigzag_decode(value: u32) -> i32 {
+    unsafe { haspeljo_zigzag_decode(value) }
+}
+
+pub fn zigzag_encode_i64(value: i64) -> u64 {
+    unsafe { haspeljo_zigzag_encode_i64(value) }
+}
+
+pub fn zigzag_decode_i64(value: u64) -> i64 {
+    unsafe { haspeljo_zigzag_decode_i64(value) }
+}
+
+pub fn is_utf8(s: &[u8]) -> bool {
+    unsafe { haspeljo_is_utf8(s.as_ptr(), s.len()) == 1 }
+}
+
+pub fn is_bogus_v4(address: u32, network: Network) -> bool {
+    unsafe { haspeljo_is_bogus_v4(address, 0, mainnet(network)) == 1 }
+}
+
+pub fn is_bogus_v6(high: u64, low: u64, network: Network) -> bool {
+    unsafe { haspeljo_is_bogus_v6(high, low, 0, mainnet(network)) == 1 }
+}
+
+pub fn blake2b256(s: &[u8]) -> [u8; 32] {
+    let mut r = [0; 32];
+    unsafe { haspeljo_blake2b256(s.as_ptr(), s.len(), &mut r) };
+    r
+}
+
+pub fn frame_check(s: &[u8]) -> [u8; 4] {
+    let mut r = [0; 4];
+    unsafe { haspeljo_frame_check(s.as_ptr(), s.len(), &mut r) };
+    r
+}
+
+pub fn parse(s: &[u8]) -> Result<[u64; 15], Error> {
+    call(|r| unsafe { haspeljo_parse(s.as_ptr(), s.len(), r) })
+}
+
+pub fn measure_size(s: &[u8]) -> Result<[u64; 1], Error> {
+    call(|r| unsafe { haspeljo_measure_size(s.as_ptr(), s.len(), r) })
+}
+
+pub fn parse_peer_entry(s: &[u8], at: usize) -> Result<[u64; 15], Error> {
+    call(|r| unsafe { haspeljo_parse_peer_entry(s.as_ptr(), s.len(), at, r) })
+}
+
+pub fn read_feature(s: &[u8], at: usize) -> Result<[u64; 4], Error> {
+    call(|r| unsafe { haspeljo_read_feature(s.as_ptr(), s.len(), at, r) })
+}
+
+pub fn validate_peer(s: &[u8], network: Network) -> Result<[u64; 2], Error> {
+    call(|r| unsafe { haspeljo_validate_peer(s.as_ptr(), s.len(), mainnet(network), r) })
+}
+
+pub fn validate_entry(s: &[u8], at: usize, network: Network) -> Result<[u64; 2], Error> {
+    call(|r| unsafe { haspeljo_validate_entry(s.as_ptr(), s.len(), at, mainnet(network), r) })
+}
+
+pub fn rest_api_url(s: &[u8], at: usize) -> Result<[u64; 4], Error> {
+    call(|r| unsafe { haspeljo_rest_api_url(s.as_ptr(), s.len(), at, r) })
+}
+
+pub fn decode(s: &[u8], network: Network, at: usize) -> Result<[u64; 4], Error> {
+    call(|r| unsafe { haspeljo_decode(s.as_ptr(), s.len(), mainnet(network), at, r) })
+}
+
+pub fn from_frame(code: u8, body: &[u8], cap: usize, network: Network) -> Result<[u64; 5], Error> {
+    call(|r| unsafe {
+        haspeljo_from_frame(code, body.as_ptr(), body.len(), cap, mainnet(network), r)
+    })
+}
+
+pub fn read_payload(body: &[u8], at: usize, total: usize) -> Result<[u64; 5], Error> {
+    call(|r| unsafe { haspeljo_read_payload(body.as_ptr(), body.len(), at, total, r) })
+}
+
+pub fn step(s: &[u8], network: Network, cap: usize, at: usize) -> Result<[u64; 11], Error> {
+    call(|r| unsafe { haspeljo_step(s.as_ptr(), s.len(), mainnet(network), cap, at, r) })
+}
+
+/// Tables of entries and of features, beside the buffer that their places are in.
+#[derive(Clone, Copy)]
+pub struct Lent<'a> {
+    pub entries: &'a [u32],
+    pub features: &'a [u32],
+    pub buffer: &'a [u8],
+}
+
+pub fn write_entry(out: &mut [u8], at: usize, lent: Lent, index: usize) -> Result<usize, Error> {
+    let Lent { entries, features, buffer } = lent;
+    write(|r| unsafe {
+        haspeljo_write_entry(
+            out.as_mut_ptr(),
+            out.len(),
+            at,
+            entries.as_ptr(),
+            entries.len(),
+            features.as_ptr(),
+            features.len(),
+            buffer.as_ptr(),
+            buffer.len(),
+            index,
+            r,
+        )
+    })
+}
+
+pub fn write_handshake(
+    out: &mut [u8],
+    at: usize,
+    timestamp: u64,
+    lent: Lent,
+    index: usize,
+) -> Result<usize, Error> {
+    let Lent { entries, features, buffer } = lent;
+    write(|r| unsafe {
+        haspeljo_write_handshake(
+            out.as_mut_ptr(),
+            out.len(),
+            at,
+            timestamp,
+            entries.as_ptr(),
+            entries.len(),
+            features.as_ptr(),
+            features.len(),
+            buffer.as_ptr(),
+            buffer.len(),
+            index,
+            r,
+        )
+    })
+}
+
+/// `address` is its kind (0 for none, 4 or 6), the high and the low half, and the port.
+pub fn build(
+    out: &mut [u8],
+    at: usize,
+    config: &HandshakeConfig,
+    address: (u8, u64, u64, u16),
+) -> Result<usize, Error> {
+    let (kind, high, low, port) = address;
+    let (agent, name) = (config.agent_name, config.peer_name);
+    write(|r| unsafe {
+        haspeljo_build(
+            out.as_mut_ptr(),
+            out.len(),
+            at,
+            mainnet(config.network),
+            (config.mode == ProxyMode::Light).into(),
+            config.state_type_id,
+            config.verifying.into(),
+            config.blocks_to_keep,
+            config.version.major,
+            config.version.minor,
+            config.version.patch,
+            kind,
+            high,
+            low,
+            port,
+            config.timestamp,
+            config.session_id,
+            agent.as_ptr(),
+            agent.len(),
+            name.as_ptr(),
+            name.len(),
+            r,
+        )
+    })
+}
+
+pub fn encode(
+    out: &mut [u8],
+    at: usize,
+    network: Network,
+    code: u8,
+    body: &[u8],
+) -> Result<usize, Error> {
+    let mainnet = mainnet(network);
+    write(|r| unsafe {
+        let (start, length) = (body.as_ptr(), body.len());
+        haspeljo_encode(out.as_mut_ptr(), out.len(), at, mainnet, code, start, length, r)
+    })
+}
+
+pub fn write_get_peers(out: &mut [u8], at: usize, network: Network) -> Result<usize, Error> {
+    let mainnet = mainnet(network);
+    write(|r| unsafe { haspeljo_write_get_peers(out.as_mut_ptr(), out.len(), at, mainnet, r) })
+}
+
+pub fn write_peers(
+    out: &mut [u8],
+    at: usize,
+    network: Network,
+    cap: usize,
+    lent: Lent,
+) -> Result<usize, Error> {
+    let Lent { entries, features, buffer } = lent;
+    write(|r| unsafe {
+        haspeljo_write_peers(
+            out.as_mut_ptr(),
+            out.len(),
+            at,
+            mainnet(network),
+            cap,
+            entries.as_ptr(),
+            entries.len(),
+            features.as_ptr(),
+            features.len(),
+            buffer.as_ptr(),
+            buffer.len(),
+            r,
+        )
+    })
+}
+
+/// A writer of one table: output, network, type byte, table, buffer, result.
+type OneTable = unsafe extern "C" fn(
+    *mut u8,
+    usize,
+    usize,
+    u8,
+    u8,
+    *const u32,
+    usize,
+    *const u8,
+    usize,
+    *mut [u64; 1],
+) -> u8;
+
+/// Which message of one table is written.
+#[derive(Clone, Copy)]
+pub enum Listed {
+    ModifierRequest,
+    ModifierResponse,
+    Inv,
+}
+
+impl Listed {
+    fn writer(self) -> OneTable {
+        match self {
+            Listed::ModifierRequest => haspeljo_write_modifier_request,
+            Listed::ModifierResponse => haspeljo_write_modifier_response,
+            Listed::Inv => haspeljo_write_inv,
+        }
+    }
+}
+
+pub fn write_listed(
+    out: &mut [u8],
+    at: usize,
+    network: Network,
+    listed: Listed,
+    modifier_type: u8,
+    table: &[u32],
+    buffer: &[u8],
+) -> Result<usize, Error> {
+    write(|r| unsafe {
+        listed.writer()(
+            out.as_mut_ptr(),
+            out.len(),
+            at,
+            mainnet(network),
+            modifier_type,
+            table.as_ptr(),
+            table.len(),
+            buffer.as_ptr(),
+            buffer.len(),
+            r,
+        )
+    })
+}
+
+pub fn write_sync_info(
+    out: &mut [u8],
+    at: usize,
+    network: Network,
+    body: &[u8],
+) -> Result<usize, Error> {
+    let mainnet = mainnet(network);
+    write(|r| unsafe {
+        let (start, length) = (body.as_ptr(), body.len());
+        haspeljo_write_sync_info(out.as_mut_ptr(), out.len(), at, mainnet, start, length, r)
+    })
+}
+
+pub fn write_unknown(
+    out: &mut [u8],
+    at: usize,
+    network: Network,
+    code: u8,
+    body: &[u8],
+) -> Result<usize, Error> {
+    let mainnet = mainnet(network);
+    write(|r| unsafe {
+        let (start, length) = (body.as_ptr(), body.len());
+        haspeljo_write_unknown(out.as_mut_ptr(), out.len(), at, mainnet, code, start, length, r)
+    })
+}
+
+fn mainnet(network: Network) -> u8 {
+    (network == Network::Mainnet).into()
+}
