@@ -100,6 +100,11 @@ fn edges() -> Vec<Case> {
     edges
 }
 
+/// A session of at most three messages that is short enough to be cut at every byte.
+pub fn short_session(rng: &mut Rng) -> Case {
+    brief(rng, |rng| session(rng, 4, NEVER), |(case, _)| case).0
+}
+
 /// A handshake and fewer than `most` messages, and the end of each item.
 fn session(rng: &mut Rng, most: u64, wrong: Wrong) -> (Case, Vec<usize>) {
     let (mainnet, network) = rng.pick(&[(0, Network::Testnet), (1, Network::Mainnet)]);
