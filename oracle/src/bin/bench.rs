@@ -2,9 +2,12 @@
 
 use blake2::PORTABLE;
 use oracle::{hashes, ours};
-use p2p::protocol::messages::{build_peers_body, parse_peers_body};
+use p2p::protocol::address_sanity::is_bogus_address;
+use p2p::protocol::messages::{build_peers_body, parse_peers_body, ProtocolMessage};
 use p2p::transport::frame::{decode, encode, Frame};
-use p2p::transport::handshake::{parse, serialize_peer_entry, Feature, PeerSpec};
+use p2p::transport::handshake::{
+    measure_size, parse, serialize_peer_entry, validate_peer, Feature, PeerSpec,
+};
 use p2p::types::{Network, Version};
 use std::fmt::Debug;
 use std::hint::black_box;
@@ -39,6 +42,11 @@ fn rows() -> Vec<Row> {
         frame("decode of 100 bytes", 100, 20_000),
         frame("decode of 64 KiB", 64 << 10, 50),
         peers(400),
+        session("session of 64 KiB", 64 << 10, 50),
+        session("session of 1 MiB", 1 << 20, 4),
+        session("session of 4 MiB", 4 << 20, 1),
+        session("session of 16 MiB", 16 << 20, 1),
+        session("session of 64 MiB", 64 << 20, 1),
     ]
 }
 
@@ -74,6 +82,65 @@ fn handshake(calls: usize) -> Row {
     )
 }
 
+/// The walk over a session of at least so many bytes: a handshake, then Inv of 400 ids, Peers of 64 entries, a payload of
+/// 20,000 bytes and a SyncInfo, again and again.
+fn session(name: &'static str, length: usize, calls: usize) -> Row {
+    let mut bytes = vec![0xc0, 0xa5, 0xcb, 0xd5, 0xa8, 0x33];
+    serialize_peer_entry(&peer(1), &mut bytes);
+    let specs: Vec<PeerSpec> = (0..ENTRIES).map(|i| peer(i as u8)).collect();
+    let messages = [
+        ProtocolMessage::Inv { modifier_type: 101, ids: vec![[7; 32]; 400] },
+        ProtocolMessage::Peers { body: build_peers_body(&specs) },
+        ProtocolMessage::ModifierResponse { modifier_type: 101, modifiers: vec![([7; 32], vec![9; 20_000])] },
+        ProtocolMessage::SyncInfo { body: vec![5; 500] },
+    ];
+    for message in messages.iter().cycle() {
+        if bytes.len() >= length {
+            break;
+        }
+        bytes.extend(encode(&Network::Mainnet.magic(), &message.to_frame()));
+    }
+    let mut row = reader(
+        name,
+        calls,
+        bytes.clone(),
+        |s| assert!(black_box(ours::sessions::items(s, 1, ENTRIES)) > 1),
+        |s| assert!(black_box(items(s)) > 1),
+    );
+    portable(&mut row, move || (0..calls).for_each(|_| assert!(items(black_box(&bytes)) > 1)));
+    row
+}
+
+/// The walk put together from the Rust's functions: how many items there are.
+fn items(s: &[u8]) -> usize {
+    let spec = parse(s).expect("a handshake");
+    black_box(validate_peer(&spec, &Network::Mainnet).is_ok());
+    let mut at = measure_size(s).expect("a handshake");
+    let mut count = 1;
+    while at < s.len() {
+        let frame = decode(&Network::Mainnet.magic(), &s[at..]).expect("a frame");
+        at += if frame.body.is_empty() { 9 } else { 13 + frame.body.len() };
+        if let ProtocolMessage::Peers { body } = ProtocolMessage::from_frame(&frame).expect("a message") {
+            let specs = parse_peers_body(&body, ENTRIES).expect("entries");
+            let bogus = |spec: &&PeerSpec| spec.address.is_some_and(|a| is_bogus_address(a, Network::Mainnet));
+            black_box(specs.iter().filter(bogus).count());
+        }
+        count += 1;
+    }
+    count
+}
+
+/// Puts the Rust over blake2-rfc before the Rust over blake2b_simd.
+fn portable(row: &mut Row, run: impl Fn() + 'static) {
+    row.others[0].name = "over blake2b_simd";
+    let run = move || {
+        PORTABLE.store(true, Ordering::Relaxed);
+        run();
+        PORTABLE.store(false, Ordering::Relaxed);
+    };
+    row.others.insert(0, Side { name: "the Rust", run: Box::new(run) });
+}
+
 /// A frame. The Rust's own hash crate is portable code and no package of Debian's; blake2-rfc stands for it and
 /// counts. The Rust over blake2b_simd, which has vector instructions, is timed beside it.
 fn frame(name: &'static str, length: usize, calls: usize) -> Row {
@@ -82,13 +149,7 @@ fn frame(name: &'static str, length: usize, calls: usize) -> Row {
     let rust: fn(&[u8]) = |s| keep(decode(&Network::Mainnet.magic(), s));
     let ours: fn(&[u8]) = |s| keep(ours::frames::decoded(s, 0, 1));
     let mut row = reader(name, calls, bytes.clone(), ours, rust);
-    let portable = move || {
-        PORTABLE.store(true, Ordering::Relaxed);
-        (0..calls).for_each(|_| rust(black_box(&bytes)));
-        PORTABLE.store(false, Ordering::Relaxed);
-    };
-    row.others[0].name = "over blake2b_simd";
-    row.others.insert(0, Side { name: "the Rust", run: Box::new(portable) });
+    portable(&mut row, move || (0..calls).for_each(|_| rust(black_box(&bytes))));
     row
 }
 

@@ -37,6 +37,20 @@ pub fn step(s: &[u8], at: usize, mainnet: u8, cap: usize) -> Answer {
     }
 }
 
+/// How many items a session has, by its steps alone.
+pub fn items(s: &[u8], mainnet: u8, cap: usize) -> u64 {
+    let (mut count, mut at) = (0, 0);
+    let mut r = [0; 11];
+    loop {
+        let number = unsafe { haspeljo_step(s.as_ptr(), s.len(), mainnet, cap, at, &mut r) };
+        match (number, r[0]) {
+            (0, HANDSHAKE | MESSAGE) => at = r[2] as usize,
+            _ => return count,
+        }
+        count += 1;
+    }
+}
+
 pub fn walk(s: &[u8], mainnet: u8, cap: usize) -> Answer {
     let mut values = vec![];
     let mut at = 0;
