@@ -131,24 +131,36 @@ pub fn address_size(l: u32) -> u32
 
 // ---- rows
 
-fn entry_at(t: &[u32], k: usize) -> EntryRow
-    requires { ⌜ 12 * k + 12 ≤ length (now t) ⌝ }
+// Row k of an entry table, with 0 for each number that is not there.
+pub fn entry_at(t: &[u32], k: usize) -> EntryRow
     ensures { λ r. ⌜ r ≡ entryRow (now (t .entry)) k ⌝ }
 {
-    let b = 12 * k;
+    let b = 12 * min_of(k, t.len() / 12 + 1);
     EntryRow {
-        agentat: t[b],
-        agentlen: t[b + 1],
-        major: t[b + 2],
-        minor: t[b + 3],
-        patch: t[b + 4],
-        nameat: t[b + 5],
-        namelen: t[b + 6],
-        addrlen: t[b + 7],
-        addrat: t[b + 8],
-        port: t[b + 9],
-        first: t[b + 10],
-        count: t[b + 11],
+        agentat: number_at(t, b),
+        agentlen: number_at(t, b + 1),
+        major: number_at(t, b + 2),
+        minor: number_at(t, b + 3),
+        patch: number_at(t, b + 4),
+        nameat: number_at(t, b + 5),
+        namelen: number_at(t, b + 6),
+        addrlen: number_at(t, b + 7),
+        addrat: number_at(t, b + 8),
+        port: number_at(t, b + 9),
+        first: number_at(t, b + 10),
+        count: number_at(t, b + 11),
+    }
+}
+
+// Row k of a feature table, with 0 for each number that is not there.
+pub fn feature_at(t: &[u32], k: usize) -> FeatureRow
+    ensures { λ r. ⌜ r ≡ featureRow (now (t .entry)) k ⌝ }
+{
+    let b = 3 * min_of(k, t.len() / 3 + 1);
+    FeatureRow {
+        id: number_at(t, b),
+        at: number_at(t, b + 1),
+        len: number_at(t, b + 2),
     }
 }
 
@@ -157,16 +169,6 @@ fn number_at(t: &[u32], i: usize) -> u32
     ensures { λ r. ⌜ r ≡ getD (now (t .entry)) i 0 ⌝ }
 {
     if i < t.len() { t[i] } else { 0 }
-}
-
-fn feature_at(t: &[u32], k: usize) -> FeatureRow
-    requires { ⌜ 3 * k + 3 < 2 ^ 64 ⌝ }
-    ensures { λ r. ⌜ r ≡ featureRow (now (t .entry)) k ⌝ }
-{
-    let id = number_at(t, 3 * k);
-    let at = number_at(t, 3 * k + 1);
-    let len = number_at(t, 3 * k + 2);
-    FeatureRow { id, at, len }
 }
 
 fn min_of(a: usize, b: usize) -> usize

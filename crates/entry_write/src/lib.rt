@@ -21,6 +21,8 @@ ghost use Rattle.entry_write.specs.Ready.{Ready};
 use entry_ask::address_size;
 use entry_ask::ask_place;
 use entry_ask::ask_row;
+use entry_ask::entry_at;
+use entry_ask::feature_at;
 use entry_ask::part_at;
 use entry_ask::tables_whole;
 use handshake::EntryRow;
@@ -175,37 +177,4 @@ fn put_vlq(out: &mut [u8], at: usize, value: u64) -> usize
 {
     write_vlq(out, at, value);
     at + vlq_len(value)
-}
-
-fn entry_at(t: &[u32], k: usize) -> EntryRow
-    requires { ⌜ 12 * k + 12 ≤ length (now t) ⌝ }
-    ensures { λ r. ⌜ r ≡ entryRow (now (t .entry)) k ⌝ }
-{
-    let b = 12 * k;
-    EntryRow {
-        agentat: t[b],
-        agentlen: t[b + 1],
-        major: t[b + 2],
-        minor: t[b + 3],
-        patch: t[b + 4],
-        nameat: t[b + 5],
-        namelen: t[b + 6],
-        addrlen: t[b + 7],
-        addrat: t[b + 8],
-        port: t[b + 9],
-        first: t[b + 10],
-        count: t[b + 11],
-    }
-}
-
-fn feature_at(t: &[u32], k: usize) -> FeatureRow
-    requires { ⌜ 3 * k + 3 ≤ length (now t) ⌝ }
-    ensures { λ r. ⌜ r ≡ featureRow (now (t .entry)) k ⌝ }
-{
-    let b = 3 * k;
-    FeatureRow {
-        id: t[b],
-        at: t[b + 1],
-        len: t[b + 2],
-    }
 }

@@ -35,12 +35,11 @@ pub made-same : {n n′ : Network} {m m′ : ProxyMode} {b b′ : Bool} {v v′ 
     → made n m statetype b blocks′ v a timestamp session′ ≡ made n′ m′ statetype b′ blocks v′ a′ timestamp session
 made-same statetype blocks timestamp session en em eb ev ea ek es = λ i. made (en i) (em i) statetype (eb i) (ek i) (ev i) (ea i) timestamp (es i)
 
-module _ {c c′ : Config} (same : c ≡ c′) (agent name out : List ℕ) (at : ℕ) {r : Written} where
-  pub build-said : r ≡ builtWritten (configOf c agent name) out at → r ≡ builtWritten (configOf c′ agent name) out at
-  build-said says = says ∙ ap (λ (c : Config). builtWritten (configOf c agent name) out at) same
-
-  pub build-left : {last : List ℕ} → r ≡ builtWritten (configOf c agent name) out at → last ≡ outputAfter r out at (handshakeBytes (built (configOf c agent name)))
-      → last ≡ outputAfter (builtWritten (configOf c′ agent name) out at) out at (handshakeBytes (built (configOf c′ agent name)))
-  build-left says left =
-      left ∙ ap (λ (c : Config). outputAfter r out at (handshakeBytes (built (configOf c agent name)))) same
-      ∙ ap (λ (w : Written). outputAfter w out at (handshakeBytes (built (configOf c′ agent name)))) (build-said says)
+-- what `build` says and leaves for a Config, it says and leaves for an equal one
+pub build-same : {c c′ : Config} → c ≡ c′ → (agent name out : List ℕ) (at : ℕ) {r : Written} {last : List ℕ}
+    → (r ≡ builtWritten (configOf c agent name) out at) × (last ≡ outputAfter r out at (handshakeBytes (built (configOf c agent name))))
+    → (r ≡ builtWritten (configOf c′ agent name) out at) × (last ≡ outputAfter r out at (handshakeBytes (built (configOf c′ agent name))))
+build-same same agent name out at {r} wrote = (
+  wrote .0 ∙ ap (λ (c : Config). builtWritten (configOf c agent name) out at) same,
+  wrote .1 ∙ ap (λ (c : Config). outputAfter r out at (handshakeBytes (built (configOf c agent name)))) same,
+)

@@ -5,11 +5,12 @@ ghost use Prim.Native.Nat.{_+_, _≤_};
 ghost use lib.ListN.{length};
 ghost use Rattle.wire.specs.Output.{put};
 ghost use Rattle.wire.specs.OutputLaws.{Wrote};
-ghost use Rattle.walk.specs.Session.{sessionStep};
+ghost use Rattle.walk.specs.Session.{sessionStep, sessionReading};
 ghost use Rattle.walk_read.specs.Steps.{stepOf};
 ghost use Rattle.report.specs.Report.{handshakeItemLine, messageItemLine, stopItemLine, lineOf, nextOf};
 ghost use Rattle.report.specs.Lines.{lineEnd, versionText, handshakeLine, messageText, messageLine, peersLine, stopLine, endLine};
 ghost use Rattle.report.specs.Lines.{field as Lines·field, span as Lines·span};
+use libc::STDOUT_FILENO;
 use messages_read::Message;
 use types::Network;
 use types::StreamPlace;
@@ -24,6 +25,25 @@ pub struct Next {
     pub len: usize,
     pub at: StreamPlace,
     pub more: bool,
+}
+
+// Prints the report of a session, a line for each item and one for how it ends, and gives how many lines there are.
+pub fn print_report(s: &[u8], network: Network, cap: usize) -> usize
+    ensures { λ r. ⌜ r ≡ length (sessionReading network cap (now (s .entry)) .items) + 1 ⌝ }
+{
+    let mut at = 0;
+    let mut more = true;
+    let mut lines = 0;
+    while more {
+        let mut line = [0u8; 192];
+        let next = next_line(&mut line, s, network, cap, StreamPlace(at));
+        let n = io::count(next.len as isize, &line);
+        io::write_all(STDOUT_FILENO, &line[..n]);
+        at = next.at.0;
+        more = next.more;
+        lines += 1;
+    }
+    lines
 }
 
 // The line of the step at a place of a session. A place past the session's length has no line.

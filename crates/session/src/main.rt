@@ -3,7 +3,6 @@
 use libc::STDIN_FILENO;
 use libc::STDOUT_FILENO;
 use types::Network;
-use types::StreamPlace;
 
 const MOST: usize = 65536;
 
@@ -16,18 +15,5 @@ fn main() {
         io::write_all(STDOUT_FILENO, b"long\n");
         return;
     }
-    print_report(&session[..n]);
-}
-
-fn print_report(s: &[u8]) {
-    let mut at = 0;
-    let mut more = true;
-    while more {
-        let mut line = [0u8; 192];
-        let next = report::next_line(&mut line, s, Network::Mainnet, CAP, StreamPlace(at));
-        let n = io::count(next.len as isize, &line);
-        io::write_all(STDOUT_FILENO, &line[..n]);
-        at = next.at.0;
-        more = next.more;
-    }
+    report::print_report(&session[..n], Network::Mainnet, CAP);
 }

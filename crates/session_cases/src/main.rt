@@ -4,7 +4,6 @@ ghost use lib.ListN.{length};
 use libc::STDIN_FILENO;
 use libc::STDOUT_FILENO;
 use types::Network;
-use types::StreamPlace;
 
 const CAP: usize = 64;
 
@@ -22,7 +21,7 @@ fn print_reports(s: &[u8]) {
         if end <= at + 1 {
             return;
         }
-        print_report(&s[at + 2..end]);
+        report::print_report(&s[at + 2..end], Network::Mainnet, CAP);
         at = end;
     }
 }
@@ -44,17 +43,4 @@ fn wide(x: u8) -> usize
     ensures { λ r. ⌜ r < 256 ⌝ }
 {
     x as usize
-}
-
-fn print_report(s: &[u8]) {
-    let mut at = 0;
-    let mut more = true;
-    while more {
-        let mut line = [0u8; 192];
-        let next = report::next_line(&mut line, s, Network::Mainnet, CAP, StreamPlace(at));
-        let n = io::count(next.len as isize, &line);
-        io::write_all(STDOUT_FILENO, &line[..n]);
-        at = next.at.0;
-        more = next.more;
-    }
 }

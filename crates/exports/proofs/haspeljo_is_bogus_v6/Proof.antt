@@ -4,12 +4,6 @@ use borrow.Author.Needs.{needs}
 use Rattle.exports.proofs.haspeljo_is_bogus_v6.Statement.{statement}
 use Rattle.exports.proofs.haspeljo_is_bogus_v6.Tie as tie
 
-network-of-requires : tie.Need-network-of-requires
-network-of-requires c κs = search needs
-
-is-bogus-address-requires : tie.Need-is-bogus-address-requires
-is-bogus-address-requires c κs = search needs
-
 returns : tie.Need-returns
 returns c =
     let e = sym (c .before .is-bogus-address .ensures) ∙ c .if1 .taken in
@@ -22,4 +16,9 @@ returns-2 c =
 
 pub haspeljo-is-bogus-v6-spec : {M : Type 1} → statement M
 haspeljo-is-bogus-v6-spec =
-    tie.close (tie.spec network-of-requires is-bogus-address-requires returns returns-2)
+    tie.close
+    (tie.spec
+    (λ c κs. search needs)
+    (λ c κs. search needs)
+    returns
+    returns-2)

@@ -4,9 +4,6 @@ use borrow.Author.Needs.{needs}
 use Rattle.exports.proofs.haspeljo_is_utf8.Statement.{statement}
 use Rattle.exports.proofs.haspeljo_is_utf8.Tie as tie
 
-is-utf8-requires : tie.Need-is-utf8-requires
-is-utf8-requires c κs = search needs
-
 returns : tie.Need-returns
 returns c = let e = sym (c .before .is-utf8 .ensures) ∙ c .if1 .taken in rw e
 
@@ -14,4 +11,4 @@ returns-2 : tie.Need-returns-2
 returns-2 c = let e = sym (c .before .is-utf8 .ensures) ∙ c .if1 .left in rw e
 
 pub haspeljo-is-utf8-spec : {M : Type 1} → statement M
-haspeljo-is-utf8-spec = tie.close (tie.spec is-utf8-requires returns returns-2)
+haspeljo-is-utf8-spec = tie.close (tie.spec (λ c κs. search needs) returns returns-2)

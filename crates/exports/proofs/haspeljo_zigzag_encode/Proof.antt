@@ -6,11 +6,8 @@ use borrow.Author.Needs.{needs}
 use Rattle.exports.proofs.haspeljo_zigzag_encode.Statement.{statement}
 use Rattle.exports.proofs.haspeljo_zigzag_encode.Tie as tie
 
-zigzag-encode-requires : tie.Need-zigzag-encode-requires
-zigzag-encode-requires c κs = search needs
-
 returns : tie.Need-returns
 returns c = c .zigzag-encode .ensures ∙ ap zigzagEncode (toZ-ofZ (c .before .fits .value))
 
 pub haspeljo-zigzag-encode-spec : {M : Type 1} → statement M
-haspeljo-zigzag-encode-spec = tie.close (tie.spec zigzag-encode-requires returns)
+haspeljo-zigzag-encode-spec = tie.close (tie.spec (λ c κs. search needs) returns)

@@ -6,11 +6,8 @@ use borrow.Author.Needs.{needs}
 use Rattle.exports.proofs.haspeljo_zigzag_encode_i64.Statement.{statement}
 use Rattle.exports.proofs.haspeljo_zigzag_encode_i64.Tie as tie
 
-zigzag-encode-i64-requires : tie.Need-zigzag-encode-i64-requires
-zigzag-encode-i64-requires c κs = search needs
-
 returns : tie.Need-returns
 returns c = c .zigzag-encode-i64 .ensures ∙ ap zigzagEncode (toZ-ofZ (c .before .fits .value))
 
 pub haspeljo-zigzag-encode-i64-spec : {M : Type 1} → statement M
-haspeljo-zigzag-encode-i64-spec = tie.close (tie.spec zigzag-encode-i64-requires returns)
+haspeljo-zigzag-encode-i64-spec = tie.close (tie.spec (λ c κs. search needs) returns)

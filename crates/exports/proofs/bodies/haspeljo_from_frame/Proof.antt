@@ -1,22 +1,16 @@
 -- `exports::bodies::haspeljo_from_frame` meets its contract: number and array are those of what the reader answered.
-use mathlib.Core.Path.{sym, ap, _∙_}
+use mathlib.Core.Path.{refl}
 use Rattle.messages_read.specs.Answers.{messageAnswer}
-use Rattle.exports.specs.Results.{numberOf, arrayAfter}
+use Rattle.exports.proofs.ExportLaws.{reader-got, reader-refused}
 use borrow.Author.Needs.{needs}
 use Rattle.exports.proofs.bodies.haspeljo_from_frame.Statement.{statement}
 use Rattle.exports.proofs.bodies.haspeljo_from_frame.Tie as tie
 
 returns : tie.Need-returns
-unfolding numberOf arrayAfter
-returns c =
-    let e = sym (rw (c .before .before .before .before .before .network-of .ensures) at (c .before .before .before .before .from-frame .ensures)) ∙ ap messageAnswer (c .before .before .m .given .1) in
-    (rw e, rw e (c .message-numbers .ensures))
+returns c = reader-got messageAnswer _ _ (rw (c .before .before .before .before .before .network-of .ensures) at (c .before .before .before .before .from-frame .ensures)) (c .before .before .m .given .1) refl (c .message-numbers .ensures)
 
 returns-2 : tie.Need-returns-2
-unfolding numberOf arrayAfter
-returns-2 c =
-    let e = sym (rw (c .before .before .before .before .network-of .ensures) at (c .before .before .before .from-frame .ensures)) ∙ ap messageAnswer (c .before .m2 .given .1) in
-    (rw e, rw e)
+returns-2 c = reader-refused messageAnswer _ _ (rw (c .before .before .before .before .network-of .ensures) at (c .before .before .before .from-frame .ensures)) (c .before .m2 .given .1) refl
 
 pub haspeljo-from-frame-spec : {M : Type 1} → statement M
 haspeljo-from-frame-spec =

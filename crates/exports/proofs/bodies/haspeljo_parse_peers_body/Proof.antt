@@ -1,23 +1,16 @@
 -- `exports::bodies::haspeljo_parse_peers_body` meets its contract: number and array are those of what the reader answered.
-use mathlib.Core.Path.{sym, ap, _∙_}
+use mathlib.Core.Path.{refl}
 use Rattle.messages_read.specs.Answers.{peersAnswer}
-use Rattle.exports.specs.Results.{numberOf, arrayAfter}
-use Rattle.exports.specs.Messages.{messageNumbers}
+use Rattle.exports.proofs.ExportLaws.{reader-got, reader-refused, peers-numbers}
 use borrow.Author.Needs.{needs}
 use Rattle.exports.proofs.bodies.haspeljo_parse_peers_body.Statement.{statement}
 use Rattle.exports.proofs.bodies.haspeljo_parse_peers_body.Tie as tie
 
 returns : tie.Need-returns
-unfolding numberOf arrayAfter messageNumbers
-returns c =
-    let e = sym (rw (c .before .before .before .before .before .network-of .ensures) at (c .before .before .before .before .parse-peers-body .ensures)) ∙ ap peersAnswer (c .before .before .p .given .1) in
-    (rw e, rw e)
+returns c = reader-got peersAnswer _ _ (rw (c .before .before .before .before .before .network-of .ensures) at (c .before .before .before .before .parse-peers-body .ensures)) (c .before .before .p .given .1) refl (peers-numbers _ _)
 
 returns-2 : tie.Need-returns-2
-unfolding numberOf arrayAfter messageNumbers
-returns-2 c =
-    let e = sym (rw (c .before .before .before .before .network-of .ensures) at (c .before .before .before .parse-peers-body .ensures)) ∙ ap peersAnswer (c .before .m .given .1) in
-    (rw e, rw e)
+returns-2 c = reader-refused peersAnswer _ _ (rw (c .before .before .before .before .network-of .ensures) at (c .before .before .before .parse-peers-body .ensures)) (c .before .m .given .1) refl
 
 pub haspeljo-parse-peers-body-spec : {M : Type 1} → statement M
 haspeljo-parse-peers-body-spec =

@@ -1,22 +1,16 @@
 -- `exports::bodies::haspeljo_read_payload` meets its contract: number and array are those of what the reader answered.
-use mathlib.Core.Path.{sym, ap, _∙_}
+use mathlib.Core.Path.{refl}
 use Rattle.inventory_read.specs.Answers.{payloadAnswer}
-use Rattle.exports.specs.Results.{numberOf, arrayAfter}
+use Rattle.exports.proofs.ExportLaws.{reader-got, reader-refused}
 use borrow.Author.Needs.{needs}
 use Rattle.exports.proofs.bodies.haspeljo_read_payload.Statement.{statement}
 use Rattle.exports.proofs.bodies.haspeljo_read_payload.Tie as tie
 
 returns : tie.Need-returns
-unfolding numberOf arrayAfter
-returns c =
-    let e = sym (c .before .before .before .before .read-payload .ensures) ∙ ap payloadAnswer (c .before .before .p .given .1) in
-    (rw e, rw e)
+returns c = reader-got payloadAnswer _ _ (c .before .before .before .before .read-payload .ensures) (c .before .before .p .given .1) refl refl
 
 returns-2 : tie.Need-returns-2
-unfolding numberOf arrayAfter
-returns-2 c =
-    let e = sym (c .before .before .before .read-payload .ensures) ∙ ap payloadAnswer (c .before .m .given .1) in
-    (rw e, rw e)
+returns-2 c = reader-refused payloadAnswer _ _ (c .before .before .before .read-payload .ensures) (c .before .m .given .1) refl
 
 pub haspeljo-read-payload-spec : {M : Type 1} → statement M
 haspeljo-read-payload-spec =

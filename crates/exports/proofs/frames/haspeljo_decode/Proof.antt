@@ -1,22 +1,16 @@
 -- `exports::frames::haspeljo_decode` meets its contract: number and array are those of what the reader answered.
-use mathlib.Core.Path.{sym, ap, _∙_}
+use mathlib.Core.Path.{refl}
 use Rattle.frame_read.specs.Answers.{frameAnswer}
-use Rattle.exports.specs.Results.{numberOf, arrayAfter}
+use Rattle.exports.proofs.ExportLaws.{reader-got, reader-refused}
 use borrow.Author.Needs.{needs}
 use Rattle.exports.proofs.frames.haspeljo_decode.Statement.{statement}
 use Rattle.exports.proofs.frames.haspeljo_decode.Tie as tie
 
 returns : tie.Need-returns
-unfolding numberOf arrayAfter
-returns c =
-    let e = sym (rw (c .before .before .before .before .before .before .network-of .ensures) at (c .before .before .before .before .before .decode .ensures)) ∙ ap frameAnswer (c .before .before .before .f .given .1) in
-    (rw e, rw e)
+returns c = reader-got frameAnswer _ _ (rw (c .before .before .before .before .before .before .network-of .ensures) at (c .before .before .before .before .before .decode .ensures)) (c .before .before .before .f .given .1) refl refl
 
 returns-2 : tie.Need-returns-2
-unfolding numberOf arrayAfter
-returns-2 c =
-    let e = sym (rw (c .before .before .before .before .network-of .ensures) at (c .before .before .before .decode .ensures)) ∙ ap frameAnswer (c .before .m .given .1) in
-    (rw e, rw e)
+returns-2 c = reader-refused frameAnswer _ _ (rw (c .before .before .before .before .network-of .ensures) at (c .before .before .before .decode .ensures)) (c .before .m .given .1) refl
 
 pub haspeljo-decode-spec : {M : Type 1} → statement M
 haspeljo-decode-spec =

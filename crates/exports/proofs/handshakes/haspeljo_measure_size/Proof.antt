@@ -1,22 +1,16 @@
 -- `exports::handshakes::haspeljo_measure_size` meets its contract: number and array are those of what the reader answered.
-use mathlib.Core.Path.{sym, ap, _∙_}
+use mathlib.Core.Path.{refl}
 use Rattle.handshake_read.specs.Answers.{sizeAnswer}
-use Rattle.exports.specs.Results.{numberOf, arrayAfter}
+use Rattle.exports.proofs.ExportLaws.{reader-got, reader-refused}
 use borrow.Author.Needs.{needs}
 use Rattle.exports.proofs.handshakes.haspeljo_measure_size.Statement.{statement}
 use Rattle.exports.proofs.handshakes.haspeljo_measure_size.Tie as tie
 
 returns : tie.Need-returns
-unfolding numberOf arrayAfter
-returns c =
-    let e = sym (c .before .before .before .before .measure-size .ensures) ∙ ap sizeAnswer (c .before .before .n .given .1) in
-    (rw e, rw e)
+returns c = reader-got sizeAnswer _ _ (c .before .before .before .before .measure-size .ensures) (c .before .before .n .given .1) refl refl
 
 returns-2 : tie.Need-returns-2
-unfolding numberOf arrayAfter
-returns-2 c =
-    let e = sym (c .before .before .before .measure-size .ensures) ∙ ap sizeAnswer (c .before .m .given .1) in
-    (rw e, rw e)
+returns-2 c = reader-refused sizeAnswer _ _ (c .before .before .before .measure-size .ensures) (c .before .m .given .1) refl
 
 pub haspeljo-measure-size-spec : {M : Type 1} → statement M
 haspeljo-measure-size-spec =

@@ -1,22 +1,16 @@
 -- `exports::handshakes::haspeljo_parse` meets its contract: number and array are those of what the reader answered.
-use mathlib.Core.Path.{sym, ap, _∙_}
+use mathlib.Core.Path.{refl}
 use Rattle.handshake_read.specs.Answers.{handshakeAnswer}
-use Rattle.exports.specs.Results.{numberOf, arrayAfter}
+use Rattle.exports.proofs.ExportLaws.{reader-got, reader-refused}
 use borrow.Author.Needs.{needs}
 use Rattle.exports.proofs.handshakes.haspeljo_parse.Statement.{statement}
 use Rattle.exports.proofs.handshakes.haspeljo_parse.Tie as tie
 
 returns : tie.Need-returns
-unfolding numberOf arrayAfter
-returns c =
-    let e = sym (c .before .before .before .before .parse .ensures) ∙ ap handshakeAnswer (c .before .before .h .given .1) in
-    (rw e, rw e (c .entry-numbers .ensures))
+returns c = reader-got handshakeAnswer _ _ (c .before .before .before .before .parse .ensures) (c .before .before .h .given .1) refl (c .entry-numbers .ensures)
 
 returns-2 : tie.Need-returns-2
-unfolding numberOf arrayAfter
-returns-2 c =
-    let e = sym (c .before .before .before .parse .ensures) ∙ ap handshakeAnswer (c .before .m .given .1) in
-    (rw e, rw e)
+returns-2 c = reader-refused handshakeAnswer _ _ (c .before .before .before .parse .ensures) (c .before .m .given .1) refl
 
 pub haspeljo-parse-spec : {M : Type 1} → statement M
 haspeljo-parse-spec =

@@ -1,35 +1,28 @@
 -- `exports::writers::haspeljo_build` meets its contract: number and end are those of what the writer said, and the output is as it left it.
-use mathlib.Core.Path.{_≡_, sym, _∙_}
+use mathlib.Core.Path.{_≡_}
 use mir.Syntax.{w32, w64}
 use mir.Val.{toZ, ofZ}
-use denote.Ref.{now}
-use Rattle.exports.specs.Results.{writtenNumber, endAfter}
-use Rattle.exports.proofs.BuildLaws.{made-same, build-said, build-left}
+use Rattle.exports.proofs.ExportLaws.{writer-to, writer-refused}
+use Rattle.exports.proofs.BuildLaws.{made-same, build-same}
 use borrow.Author.Needs.{needs}
 use Rattle.exports.proofs.writers.haspeljo_build.Statement.{statement}
 use Rattle.exports.proofs.writers.haspeljo_build.Tie as tie
 
 returns : tie.Need-returns
-unfolding writtenNumber endAfter
 returns c =
     let a = c .before .before .before .before .before .before .before .before .before .before .before .before .before .before .before .before .args in
     let blocks : toZ w32 (ofZ w32 (a .blocks)) ≡ a .blocks = search needs in
     let session : toZ w64 (ofZ w64 (a .session)) ≡ a .session = search needs in
     let s = made-same (a .statetype) (a .blocks) (a .timestamp) (a .session) (c .before .before .before .before .before .before .before .before .before .before .before .before .network-of .ensures) (c .before .before .before .before .before .before .before .before .before .before .before .mode-of .ensures) (c .before .before .before .before .before .before .before .before .before .before .is-set .ensures) (c .before .before .before .before .before .before .before .before .before .new .ensures) (c .before .before .before .before .before .before .before .before .address-from .ensures) blocks session in
-    let w = c .before .before .before .before .before .before .build .ensures in
-    let e = sym (build-said s (now (a .agent)) (now (a .name)) (now (a .out)) (a .at) (w .0)) ∙ c .before .before .end .given .1 in
-    (rw e, (rw e, build-left s (now (a .agent)) (now (a .name)) (now (a .out)) (a .at) (w .0) (w .1)))
+    writer-to _ _ _ _ (build-same s _ _ _ _ (c .before .before .before .before .before .before .build .ensures)) (c .before .before .end .given .1)
 
 returns-2 : tie.Need-returns-2
-unfolding writtenNumber endAfter
 returns-2 c =
     let a = c .before .before .before .before .before .before .before .before .before .before .before .before .before .before .before .args in
     let blocks : toZ w32 (ofZ w32 (a .blocks)) ≡ a .blocks = search needs in
     let session : toZ w64 (ofZ w64 (a .session)) ≡ a .session = search needs in
     let s = made-same (a .statetype) (a .blocks) (a .timestamp) (a .session) (c .before .before .before .before .before .before .before .before .before .before .before .network-of .ensures) (c .before .before .before .before .before .before .before .before .before .before .mode-of .ensures) (c .before .before .before .before .before .before .before .before .before .is-set .ensures) (c .before .before .before .before .before .before .before .before .new .ensures) (c .before .before .before .before .before .before .before .address-from .ensures) blocks session in
-    let w = c .before .before .before .before .before .build .ensures in
-    let e = sym (build-said s (now (a .agent)) (now (a .name)) (now (a .out)) (a .at) (w .0)) ∙ c .before .m .given .1 in
-    (rw e, (rw e, build-left s (now (a .agent)) (now (a .name)) (now (a .out)) (a .at) (w .0) (w .1)))
+    writer-refused _ _ _ _ (build-same s _ _ _ _ (c .before .before .before .before .before .build .ensures)) (c .before .m .given .1)
 
 pub haspeljo-build-spec : {M : Type 1} → statement M
 haspeljo-build-spec =
