@@ -6,11 +6,11 @@ use Rattle.blake2b.specs.Blake2b.{round}
 use Rattle.blake2b.specs.Parts.{onColumns, onDiagonals}
 use Rattle.blake2b.proofs.PartsLaws.{round-halves}
 
--- four calls, with two words each that are known by equations
-pub words-four : (f g h k : List ℕ → ℕ → ℕ → List ℕ) {v w x y z : List ℕ} {a b c d e i m n a′ b′ c′ d′ e′ i′ m′ n′ : ℕ}
-    → a ≡ a′ → b ≡ b′ → w ≡ f v a b → c ≡ c′ → d ≡ d′ → x ≡ g w c d → e ≡ e′ → i ≡ i′ → y ≡ h x e i
-    → m ≡ m′ → n ≡ n′ → z ≡ k y m n → z ≡ k (h (g (f v a′ b′) c′ d′) e′ i′) m′ n′
-words-four f g h k ea eb ew ec ed ex ee ei ey em en ez = cc
+-- two calls, with four words each that are known by equations
+pub words-halves : (f g : List ℕ → ℕ → ℕ → ℕ → ℕ → List ℕ) {v w z : List ℕ} {a b c d e i m n a′ b′ c′ d′ e′ i′ m′ n′ : ℕ}
+    → a ≡ a′ → b ≡ b′ → c ≡ c′ → d ≡ d′ → w ≡ f v a b c d → e ≡ e′ → i ≡ i′ → m ≡ m′ → n ≡ n′ → z ≡ g w e i m n
+    → z ≡ g (f v a′ b′ c′ d′) e′ i′ m′ n′
+words-halves f g ea eb ec ed ew ee ei em en ez = cc
 
 -- four rounds, each of its calls on the columns and on the diagonals
 pairs-four : (f g : ℕ → List ℕ → List ℕ) (p q r s : ℕ) {v a b c d e i j k : List ℕ}

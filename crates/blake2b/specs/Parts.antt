@@ -13,6 +13,21 @@ half v a b c d x p q =
     let v : List ℕ = set v c ((v ! c + v ! d) % 2 ^ w) in
     set v b ((v ! b ⊕ v ! c) >>> q)
 
+-- half of each of the four calls of G on the columns, and of the four on the diagonals
+unfoldable pub halfColumns : List ℕ → ℕ → ℕ → ℕ → ℕ → ℕ → ℕ → List ℕ
+halfColumns v x0 x1 x2 x3 p q =
+    let v : List ℕ = half v 0 4 8 12 x0 p q in
+    let v : List ℕ = half v 1 5 9 13 x1 p q in
+    let v : List ℕ = half v 2 6 10 14 x2 p q in
+    half v 3 7 11 15 x3 p q
+
+unfoldable pub halfDiagonals : List ℕ → ℕ → ℕ → ℕ → ℕ → ℕ → ℕ → List ℕ
+halfDiagonals v x0 x1 x2 x3 p q =
+    let v : List ℕ = half v 0 5 10 15 x0 p q in
+    let v : List ℕ = half v 1 6 11 12 x1 p q in
+    let v : List ℕ = half v 2 7 8 13 x2 p q in
+    half v 3 4 9 14 x3 p q
+
 -- the schedule as it is kept: the ten rows of SIGMA one after the other
 unfoldable pub joined : List (List ℕ) → List ℕ
 joined [] = []

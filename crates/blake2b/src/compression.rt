@@ -2,8 +2,8 @@
 ghost use mathlib.Core.List.{_++_};
 ghost use mathlib.Core.Path.{_≡_};
 ghost use Prim.Native.Nat.{_+_, _*_, _%_, _^_, _<_};
-ghost use Rattle.blake2b.specs.Blake2b.{_>>>_, IV as Blake2b·IV, G, round, for, F};
-ghost use Rattle.blake2b.specs.Parts.{half, kept, onColumns, onDiagonals, four, work, xored};
+ghost use Rattle.blake2b.specs.Blake2b.{_>>>_, IV as Blake2b·IV, round, for, F};
+ghost use Rattle.blake2b.specs.Parts.{half, halfColumns, halfDiagonals, kept, onColumns, onDiagonals, four, work, xored};
 use crate::schedule::Schedule;
 use crate::schedule::schedule;
 use crate::schedule::select;
@@ -12,9 +12,19 @@ use crate::schedule::select;
 pub fn compress(h: [u64; 8], m: &[u64; 16], t0: u64, t1: u64, f: bool) -> [u64; 8]
     ensures { λ r. ⌜ r ≡ F h (now (m .entry)) (t0 + t1 * 2 ^ 64) f ⌝ }
 {
-    let v = work_vector(h, t0, t1, f);
+    let mut w = h;
+    compress_at(&mut w, m, t0, t1, f);
+    w
+}
+
+// F on the state where it stands.
+pub(crate) fn compress_at(h: &mut [u64; 8], m: &[u64; 16], t0: u64, t1: u64, f: bool)
+    ensures { λ _. ⌜ now (h .exit) ≡ F (now (h .entry)) (now (m .entry)) (t0 + t1 * 2 ^ 64) f ⌝ }
+{
+    let v = work_vector(*h, t0, t1, f);
     let v = rounds(v, m);
-    xor_halves(h, v)
+    let w = xor_halves(*h, v);
+    *h = w;
 }
 
 const IV: [u64; 8] = [
@@ -122,33 +132,74 @@ fn rounds_8_to_11(v: [u64; 16], m: &[u64; 16], s: &Schedule) -> [u64; 16]
     diagonals(v, m, s, 11)
 }
 
+// The four calls of G on the columns are done by halves: none touches a word of another, and the processor has four
+// chains to work on at a time.
 fn columns(v: [u64; 16], m: &[u64; 16], s: &Schedule, i: usize) -> [u64; 16]
     requires { ⌜ now s ≡ kept ⌝ }
     ensures { λ r. ⌜ r ≡ onColumns (now (m .entry)) i v ⌝ }
 {
-    let v = mix(v, 0, 4, 8, 12, select(m, s, i, 0), select(m, s, i, 1));
-    let v = mix(v, 1, 5, 9, 13, select(m, s, i, 2), select(m, s, i, 3));
-    let v = mix(v, 2, 6, 10, 14, select(m, s, i, 4), select(m, s, i, 5));
-    mix(v, 3, 7, 11, 15, select(m, s, i, 6), select(m, s, i, 7))
+    let v = half_columns(
+        v,
+        select(m, s, i, 0),
+        select(m, s, i, 2),
+        select(m, s, i, 4),
+        select(m, s, i, 6),
+        32,
+        24,
+    );
+    half_columns(
+        v,
+        select(m, s, i, 1),
+        select(m, s, i, 3),
+        select(m, s, i, 5),
+        select(m, s, i, 7),
+        16,
+        63,
+    )
 }
 
 fn diagonals(v: [u64; 16], m: &[u64; 16], s: &Schedule, i: usize) -> [u64; 16]
     requires { ⌜ now s ≡ kept ⌝ }
     ensures { λ r. ⌜ r ≡ onDiagonals (now (m .entry)) i v ⌝ }
 {
-    let v = mix(v, 0, 5, 10, 15, select(m, s, i, 8), select(m, s, i, 9));
-    let v = mix(v, 1, 6, 11, 12, select(m, s, i, 10), select(m, s, i, 11));
-    let v = mix(v, 2, 7, 8, 13, select(m, s, i, 12), select(m, s, i, 13));
-    mix(v, 3, 4, 9, 14, select(m, s, i, 14), select(m, s, i, 15))
+    let v = half_diagonals(
+        v,
+        select(m, s, i, 8),
+        select(m, s, i, 10),
+        select(m, s, i, 12),
+        select(m, s, i, 14),
+        32,
+        24,
+    );
+    half_diagonals(
+        v,
+        select(m, s, i, 9),
+        select(m, s, i, 11),
+        select(m, s, i, 13),
+        select(m, s, i, 15),
+        16,
+        63,
+    )
 }
 
-// G.
-fn mix(v: [u64; 16], a: usize, b: usize, c: usize, d: usize, x: u64, y: u64) -> [u64; 16]
-    requires { ⌜ (a < 16) × (b < 16) × (c < 16) × (d < 16) ⌝ }
-    ensures { λ r. ⌜ r ≡ G v a b c d x y ⌝ }
+fn half_columns(v: [u64; 16], x0: u64, x1: u64, x2: u64, x3: u64, p: u64, q: u64) -> [u64; 16]
+    requires { ⌜ (0 < p) × (p < 64) × (0 < q) × (q < 64) ⌝ }
+    ensures { λ r. ⌜ r ≡ halfColumns v x0 x1 x2 x3 p q ⌝ }
 {
-    let v = half_mix(v, a, b, c, d, x, 32, 24);
-    half_mix(v, a, b, c, d, y, 16, 63)
+    let v = half_mix(v, 0, 4, 8, 12, x0, p, q);
+    let v = half_mix(v, 1, 5, 9, 13, x1, p, q);
+    let v = half_mix(v, 2, 6, 10, 14, x2, p, q);
+    half_mix(v, 3, 7, 11, 15, x3, p, q)
+}
+
+fn half_diagonals(v: [u64; 16], x0: u64, x1: u64, x2: u64, x3: u64, p: u64, q: u64) -> [u64; 16]
+    requires { ⌜ (0 < p) × (p < 64) × (0 < q) × (q < 64) ⌝ }
+    ensures { λ r. ⌜ r ≡ halfDiagonals v x0 x1 x2 x3 p q ⌝ }
+{
+    let v = half_mix(v, 0, 5, 10, 15, x0, p, q);
+    let v = half_mix(v, 1, 6, 11, 12, x1, p, q);
+    let v = half_mix(v, 2, 7, 8, 13, x2, p, q);
+    half_mix(v, 3, 4, 9, 14, x3, p, q)
 }
 
 // The four lines of G with one message word.

@@ -3,7 +3,7 @@ ghost use mathlib.Core.Path.{_≡_};
 ghost use Prim.Native.Nat.{_+_, _-_, _*_, _/_, _%_, _^_, _≤_};
 ghost use lib.ListN.{length};
 ghost use Rattle.blake2b.specs.Blake2b.{dd, blake2b256, check as Blake2b·check};
-ghost use Rattle.blake2b.specs.Running.{started, advanced, stepped, absorbed, ended, finished};
+ghost use Rattle.blake2b.specs.Running.{started, stepped, absorbed, ended, finished};
 
 mod bytes;
 mod compression;
@@ -32,8 +32,7 @@ impl Hash {
     pub fn step(self, block: &[u8; 128]) -> Self
         ensures { λ r. ⌜ r ≡ stepped self (now (block .entry)) ⌝ }
     {
-        let m = bytes::load(block, 0);
-        advance(self, &m)
+        absorb(self, block, 1)
     }
 
     // The digest of what was absorbed and the rest, whose blocks before its last are absorbed here. An empty rest
@@ -62,17 +61,6 @@ pub fn check(s: &[u8]) -> [u8; 4]
     [d[0], d[1], d[2], d[3]]
 }
 
-// The hash after the words of a block that is not the last.
-fn advance(x: Hash, m: &[u64; 16]) -> Hash
-    ensures { λ r. ⌜ r ≡ advanced x (now (m .entry)) ⌝ }
-{
-    let h = x.h;
-    let t0 = std::num::wrapping_add_u64(x.t0, 128);
-    let t1 = high(x.t0, x.t1, 128);
-    let w = compress(h, m, t0, t1, false);
-    Hash { h: w, t0, t1 }
-}
-
 // The high word of the counter, n bytes further: one more where the low word wraps.
 fn high(t0: u64, t1: u64, n: u64) -> u64
     ensures { λ r. ⌜ r ≡ (t1 + (t0 + n) / 2 ^ 64) % 2 ^ 64 ⌝ }
@@ -96,13 +84,16 @@ fn absorb(x: Hash, s: &[u8], n: usize) -> Hash
     requires { ⌜ n * 128 ≤ length (now s) ⌝ }
     ensures { λ r. ⌜ r ≡ absorbed x (now (s .entry)) n ⌝ }
 {
-    let mut y = x;
+    let mut h = x.h;
+    let mut t0 = x.t0;
+    let mut t1 = x.t1;
     for i in 0..n {
         let m = bytes::load(s, i * 128);
-        let z = advance(y, &m);
-        y = z;
+        t1 = high(t0, t1, 128);
+        t0 = std::num::wrapping_add_u64(t0, 128);
+        compression::compress_at(&mut h, &m, t0, t1, false);
     }
-    y
+    Hash { h, t0, t1 }
 }
 
 // The state after the last block of s, its block i.

@@ -2,14 +2,6 @@
 ghost use Prim.Native.Nat.{_+_, _<_, _≤_};
 ghost use lib.ListN.{length};
 
-// The largest output of a writer's case.
-pub(crate) const MAX_ROOM: usize = 400;
-
-// Whether s is an input of the function: the numbers are there, each within its type, and no bytes follow where none are asked for.
-pub(crate) fn is_input(function: u8, s: &[u8]) -> bool {
-    is_length(function, s.len()) & is_in_range(function, s)
-}
-
 // The number at a place; 0 where its bytes are not there.
 pub(crate) fn number(s: &[u8], at: usize) -> u64 {
     if s.len() < 8 {
@@ -19,6 +11,16 @@ pub(crate) fn number(s: &[u8], at: usize) -> u64 {
         return 0;
     }
     half(s, at) + half(s, at + 4) * 0x1_0000_0000
+}
+
+// The number at a place as a place, count or index.
+pub(crate) fn size(s: &[u8], at: usize) -> usize {
+    number(s, at) as usize
+}
+
+// The number at a place as a network or code, which is at most 255.
+pub(crate) fn small(s: &[u8], at: usize) -> u8 {
+    (number(s, at) % 0x100) as u8
 }
 
 // The bytes from a place on; none where the place is not inside.
@@ -65,40 +67,4 @@ fn wide(x: u8) -> u64
     ensures { λ r. ⌜ r < 256 ⌝ }
 {
     x as u64
-}
-
-// Whether an input of the function may have n bytes.
-fn is_length(function: u8, n: usize) -> bool {
-    match function {
-        1..=4 => 8 <= n, // place
-        5 => 16 <= n, // place, count
-        6 => n == 24, // place, room, value
-        7..=8 => 16 <= n, // place, room
-        9..=12 => n == 8, // number
-        13 => true,
-        14 => n == 24, // address, port, mainnet
-        15 => n == 32, // high and low half of the address, port, mainnet
-        16..=17 => true,
-        _ => false,
-    }
-}
-
-fn is_in_range(function: u8, s: &[u8]) -> bool {
-    match function {
-        6..=8 => at_most(s, 8, MAX_ROOM as u64),
-        9 => is_i32(number(s, 0)),
-        10 => at_most(s, 0, 0xFFFF_FFFF),
-        14 => at_most(s, 0, 0xFFFF_FFFF) & at_most(s, 8, 0xFFFF) & at_most(s, 16, 0xFF),
-        15 => at_most(s, 16, 0xFFFF) & at_most(s, 24, 0xFF),
-        _ => true,
-    }
-}
-
-fn at_most(s: &[u8], at: usize, most: u64) -> bool {
-    number(s, at) <= most
-}
-
-// Whether x is the two's complement of an i32.
-fn is_i32(x: u64) -> bool {
-    (x < 0x8000_0000) | (0xFFFF_FFFF_8000_0000 <= x)
 }

@@ -31,6 +31,17 @@ pub(crate) fn number(line: &mut Line, at: usize, n: u64) -> usize {
     decimal(line, at, n)
 }
 
+// A space before each number.
+pub(crate) fn numbers(line: &mut Line, at: usize, r: &[u64]) -> usize {
+    let mut o = at;
+    let mut i = 0;
+    while i < r.len() {
+        o = number(line, o, r[i]);
+        i += 1;
+    }
+    o
+}
+
 // A space, then a number that may be negative.
 pub(crate) fn signed(line: &mut Line, at: usize, n: i64) -> usize {
     let at = if n < 0 {

@@ -5,17 +5,21 @@ ghost use lib.ListN.{length};
 use libc::STDIN_FILENO;
 use libc::STDOUT_FILENO;
 
+mod cursor;
 mod input;
 mod line;
 mod readers;
 mod results;
+mod shape;
 mod writers;
 
-// A file of cases has at most 60,000 bytes.
+// A file of cases has at most 120,000 bytes.
+const MOST: usize = 120_000;
+
 fn main() {
-    let mut cases = io::large_buffer();
+    let mut cases = [0u8; 120_001];
     let n = io::read_full(STDIN_FILENO, &mut cases);
-    if 60_000 < n {
+    if MOST < n {
         print_bad();
         return;
     }
@@ -65,7 +69,7 @@ fn print_case(n: u64, case: &[u8]) -> bool {
     }
     let function = case[0];
     let s = &case[3..];
-    if !input::is_input(function, s) {
+    if !shape::is_input(function, s) {
         return false;
     }
     let mut line = line::empty();
@@ -77,8 +81,9 @@ fn print_case(n: u64, case: &[u8]) -> bool {
 
 fn answer(function: u8, s: &[u8], line: &mut line::Line, at: usize) -> usize {
     match function {
-        1..=5 => readers::answer(function, s, line, at),
+        1..=5 => cursor::answer(function, s, line, at),
         6..=8 => writers::answer(function, s, line, at),
-        _ => results::answer(function, s, line, at),
+        9..=17 => results::answer(function, s, line, at),
+        _ => readers::answer(function, s, line, at),
     }
 }

@@ -1,16 +1,18 @@
 // The writers' cases: a place and the room of the output, then what is written. The answer is the bytes written and their end, or the refusal.
 ghost use Prim.Native.Nat.{_≤_};
 use crate::input;
-use crate::input::MAX_ROOM;
 use crate::line;
 use crate::line::Line;
 use wire::Written;
+
+// The largest output of a case.
+pub(crate) const MAX_ROOM: usize = 400;
 
 type Output = [u8; MAX_ROOM];
 
 pub(crate) fn answer(function: u8, s: &[u8], line: &mut Line, at: usize) -> usize {
     let mut out = [0xA5u8; MAX_ROOM];
-    let place = input::number(s, 0) as usize;
+    let place = input::size(s, 0);
     let room = room_of(s);
     match write(function, s, &mut out[0..room], place) {
         Written::To(end) => written(&out, place, end, line, at),
@@ -30,7 +32,7 @@ fn write(function: u8, s: &[u8], out: &mut [u8], place: usize) -> Written {
 fn room_of(s: &[u8]) -> usize
     ensures { λ r. ⌜ r ≤ 400 ⌝ }
 {
-    let room = input::number(s, 8) as usize;
+    let room = input::size(s, 8);
     if room <= MAX_ROOM { room } else { MAX_ROOM }
 }
 

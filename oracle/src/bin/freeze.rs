@@ -15,9 +15,9 @@ const SEED: u64 = 7693;
 const PER_KIND: usize = 6;
 /// How many cases of each function, at least, are no refusals.
 const ACCEPTED: usize = 10;
-/// The longest input, and the longest file, that a replay takes.
+/// The longest input, and the longest file, that `crates/replay` takes.
 const LONGEST_INPUT: usize = 400;
-const LONGEST_FILE: usize = 60_000;
+const LONGEST_FILE: usize = 120_000;
 
 fn main() -> ExitCode {
     let words: Vec<String> = std::env::args().skip(1).collect();

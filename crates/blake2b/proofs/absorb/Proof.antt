@@ -9,22 +9,23 @@ use Rattle.blake2b.specs.declared.Hash.{Hash}
 use Rattle.blake2b.specs.Blake2b.{bb, for, words}
 use Rattle.blake2b.specs.Blake2bLaws.{d-whole}
 use Rattle.blake2b.specs.Running.{advanced, absorbed}
+use Rattle.blake2b.proofs.Counter.{advanced-words}
 use borrow.Author.Needs.{needs}
 use Rattle.blake2b.proofs.absorb.Statement.{statement}
 use Rattle.blake2b.proofs.absorb.Tie as tie
 
+abbrev hash : List ℕ → ℕ → ℕ → Hash
+hash h low high = record { h = h; t0 = low; t1 = high }
+
 abbrev Inv-loop : tie.InvT-loop
-Inv-loop s n y₀ i₀ y i = (i ≤ n) × (y ≡ absorbed y₀ s i)
+Inv-loop s n h₀ t0₀ t1₀ i₀ h t0 t1 i = (i ≤ n) × (hash h t0 t1 ≡ absorbed (hash h₀ t0₀ t1₀) s i)
 
 abbrev μ-loop : tie.MeasureT-loop
-μ-loop s n y₀ i₀ y i = n - i
+μ-loop s n h₀ t0₀ t1₀ i₀ h t0 t1 i = n - i
 
 loop-holds : tie.Need-loop-holds Inv-loop μ-loop
 unfolding absorbed for
 loop-holds c = (omega arith, refl)
-
-advance-requires : tie.Need-advance-requires Inv-loop μ-loop
-advance-requires c κs = search needs
 
 one-more : (x y z : Hash) (s m : List ℕ) (i : ℕ) → i * bb + bb ≤ length s → y ≡ absorbed x s i → m ≡ words 16 (drop (i * bb) s) → z ≡ advanced y m
     → z ≡ absorbed x s (i + 1)
@@ -32,18 +33,23 @@ unfolding absorbed for
 one-more x y z s m i l ey em ez = rw add-one (rw (ez, ey, em, d-whole s i l))
 
 loop-again : tie.Need-loop-again Inv-loop μ-loop
-loop-again c = (
-  omega arith,
-  one-more _ _ _ _ _ _ (omega arith) (c .before .before .before .before .loop .inv .1) (c .before .before .load .ensures) (c .advance .ensures),
-)
+loop-again c =
+    let counted = c .before .before .before in
+    let turn = counted .before .before .before .before in (
+      omega arith,
+      one-more _ (hash (turn .loop .h) (turn .loop .t0) (turn .loop .t1)) _ _ _ _ (omega arith) (turn .loop .inv .1)
+          (counted .before .before .load .ensures)
+          (advanced-words (hash (turn .loop .h) (turn .loop .t0) (turn .loop .t1)) _ _ _ _ (counted .wrapping-add-u64 .ensures) (counted .before .high .ensures)
+          (c .compress-at .ensures)),
+    )
 
 returns : tie.Need-returns Inv-loop μ-loop
 returns c =
-    let e : c .before .loop .i ≡ c .before .before .before .args .n = omega arith in
+    let e : c .before .loop .i ≡ c .before .before .before .before .args .n = omega arith in
     c .before .loop .inv .1 ∙ ap (absorbed _ _) e
 
 pub absorb-spec : {M : Type 1} → statement M
 absorb-spec =
     tie.close
-    (tie.spec Inv-loop μ-loop loop-holds (λ c. omega arith) (λ c κs. omega arith) advance-requires (λ c. omega arith)
-    (λ c. omega arith) loop-again returns)
+    (tie.spec Inv-loop μ-loop loop-holds (λ c. omega arith) (λ c κs. omega arith) (λ c κs. search needs) (λ c κs. search needs) (λ c κs. search needs)
+    (λ c. omega arith) (λ c. omega arith) loop-again returns)

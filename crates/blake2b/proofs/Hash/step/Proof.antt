@@ -1,21 +1,24 @@
--- The block's words, and one more block. Assumes nothing.
+-- One block absorbed. Assumes nothing.
 use mathlib.Core.Path.{_≡_, ap, _∙_}
 use mathlib.Core.List.{List}
-use Prim.Native.Nat.{ℕ}
+use Prim.Native.Nat.{ℕ, _≤_}
+use native.Mathlib.Omega.{arith}
+use lib.ListN.{length}
 use Rattle.blake2b.specs.declared.Hash.{Hash}
-use Rattle.blake2b.specs.Blake2b.{words}
-use Rattle.blake2b.specs.Running.{advanced, stepped}
+use Rattle.blake2b.specs.Blake2b.{bb, for}
+use Rattle.blake2b.specs.Blake2bLaws.{d-whole}
+use Rattle.blake2b.specs.Running.{advanced, absorbed, stepped}
 use borrow.Author.Needs.{needs}
 use Rattle.blake2b.proofs.Hash.step.Statement.{statement}
 use Rattle.blake2b.proofs.Hash.step.Tie as tie
 
-law : (x y : Hash) (b m : List ℕ) → m ≡ words 16 b → y ≡ advanced x m → y ≡ stepped x b
-unfolding stepped
-law x y b m em ey = ey ∙ ap (advanced x) em
+law : (x y : Hash) (b : List ℕ) → length b ≡ bb → y ≡ absorbed x b 1 → y ≡ stepped x b
+unfolding stepped absorbed for
+law x y b l ey = ey ∙ ap (advanced x) (d-whole b 0 (omega arith))
 
 returns : tie.Need-returns
-returns c = law _ _ _ _ (c .before .before .load .ensures) (c .advance .ensures)
+returns c = law _ _ _ (search needs) (c .absorb .ensures)
 
 pub step-spec : {M : Type 1} → statement M
 step-spec =
-    tie.close (tie.spec (λ c κs. search needs) (λ c κs. search needs) returns)
+    tie.close (tie.spec (λ c κs. search needs) returns)

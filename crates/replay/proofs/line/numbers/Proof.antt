@@ -1,10 +1,10 @@
--- `replay_readers::line::numbers` is safe and ends: the measure is what is left of r.
+-- `replay::line::numbers` is safe and ends: the measure is what is left of r.
 use Prim.Native.Nat.{_≤_, _-_}
 use native.Mathlib.Omega.{arith}
 use lib.ListN.{length}
 use borrow.Author.Needs.{needs}
-use Rattle.replay_readers.proofs.line.numbers.Statement.{statement}
-use Rattle.replay_readers.proofs.line.numbers.Tie as tie
+use Rattle.replay.proofs.line.numbers.Statement.{statement}
+use Rattle.replay.proofs.line.numbers.Tie as tie
 
 abbrev Inv-loop : tie.InvT-loop
 Inv-loop line₀ at r o₀ i₀ line o i = i ≤ length r
