@@ -22,7 +22,7 @@ alwaysV4 =
     ∷ (ipv4 224 0 0 0, 4)  -- RFC 1112, section 4: class D, multicast
     ∷ (ipv4 240 0 0 0, 4)  -- RFC 1112, section 4: class E, reserved, with the broadcast address 255.255.255.255
     ∷ (ipv4 0 0 0 0, 32)  -- RFC 1122, section 3.2.1.3: unspecified
-    ∷ (ipv4 198 18 0 0, 15)  -- RFC 2544, appendix C.2.2: benchmarking
+    ∷ (ipv4 198 18 0 0, 15)  -- RFC 2544, appendix C.2.2, as RFC 6890, table 12, has it: benchmarking
     ∷ []
 
 unfoldable pub alwaysV6 : List Range

@@ -12,14 +12,10 @@ use Rattle.vlq.specs.Vlq.{limit}
 use Rattle.handshake.specs.declared.FeatureRow.{FeatureRow}
 use Rattle.handshake.specs.declared.EntryRow.{EntryRow}
 use Rattle.handshake.specs.Value.{entryBytes, shortStrings, utf8Strings, fewFeatures, lengthsWithin, entriesAsked}
-use Rattle.handshake.specs.Tables.{Lent, rows, featureRow, entryRow, entryRows, featureOf, entryOf, entriesOf, featureNumbers, entryNumbers, tablesWhole, featureInside, entryInside}
+use Rattle.handshake.specs.Tables.{Lent, lent, rows, featureRow, entryRow, entryRows, featureOf, entryOf, entriesOf, featureNumbers, entryNumbers, tablesWhole, featureInside, entryInside}
 use Rattle.handshake.specs.Writes.{entryAt, rowAsked}
 use Rattle.entry_ask.specs.declared.About.{About}
 use Rattle.entry_ask.specs.declared.About.the-variants.{Numbers, Inside, Short, Utf8, Count, Lengths}
-
--- the tables and the buffer of one call
-abbrev pub lent : List ℕ → List ℕ → List ℕ → Lent
-lent entries features buffer = record { entries = entries; features = features; buffer = buffer }
 
 -- ---- a question of one row
 

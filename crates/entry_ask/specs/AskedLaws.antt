@@ -19,11 +19,11 @@ use Rattle.vlq.specs.Vlq.{limit}
 use Rattle.handshake.specs.declared.FeatureRow.{FeatureRow}
 use Rattle.handshake.specs.declared.EntryRow.{EntryRow}
 use Rattle.handshake.specs.Value.{EntryValue, shortStrings, utf8Strings, fewFeatures, lengthsWithin, entriesAsked}
-use Rattle.handshake.specs.Tables.{Lent, featureRow, entryRow, entryRows, featureRows, ownRows, featureOf, entryOf, entriesOf, wholeRows, featureNumbers, entryNumbers, tablesWhole, featureInside, entryInside}
+use Rattle.handshake.specs.Tables.{Lent, lent, featureRow, entryRow, entryRows, featureRows, ownRows, featureOf, entryOf, entriesOf, wholeRows, featureNumbers, entryNumbers, tablesWhole, featureInside, entryInside}
 use Rattle.handshake.specs.TablesLaws.{every-row}
 use Rattle.handshake.specs.Writes.{rowInside, rowAsked}
 use Rattle.handshake.specs.RowsLaws.{length-rows, every-rows}
-use Rattle.entry_ask.specs.Asked.{lent, featureHolds, rowHolds, numbersWhole, rowWhole, entrySaid, rowSaid, partsSaid, placed}
+use Rattle.entry_ask.specs.Asked.{featureHolds, rowHolds, numbersWhole, rowWhole, entrySaid, rowSaid, partsSaid, placed}
 use Rattle.entry_ask.specs.declared.About.{About}
 use Rattle.entry_ask.specs.declared.About.the-variants.{Numbers, Inside, Short, Utf8, Count, Lengths}
 

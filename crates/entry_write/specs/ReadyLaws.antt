@@ -11,10 +11,10 @@ use Rattle.wire.specs.Bytes.{every}
 use Rattle.wire.specs.BytesLaws.{and-true}
 use Rattle.wire.specs.OutputLaws.{AllHold}
 use Rattle.handshake.specs.Value.{shortStrings, fewFeatures, entriesAsked}
-use Rattle.handshake.specs.Tables.{Lent, entryRow, entryOf, entryNumbers, inside, entryInside}
+use Rattle.handshake.specs.Tables.{Lent, lent, entryRow, entryOf, entryNumbers, inside, entryInside}
 use Rattle.handshake.specs.TablesLaws.{own-range}
 use Rattle.handshake.specs.Writes.{rowInside, rowAsked}
-use Rattle.entry_ask.specs.Asked.{lent, numbersWhole, rowWhole}
+use Rattle.entry_ask.specs.Asked.{numbersWhole, rowWhole}
 use Rattle.entry_ask.specs.AskedLaws.{own-entry, length-features}
 use Rattle.entry_write.specs.Ready.{Ready}
 

@@ -17,10 +17,9 @@ use Rattle.handshake.specs.declared.FeatureRow.{FeatureRow}
 use Rattle.handshake.specs.Entry.{addressOf}
 use Rattle.handshake.specs.AddressLaws.{addressBytes-of}
 use Rattle.handshake.specs.Value.{addressBytes, shortStrings}
-use Rattle.handshake.specs.Tables.{bytesAt, entryOf, featureNumbers, entryNumbers, inside}
+use Rattle.handshake.specs.Tables.{lent, bytesAt, entryOf, featureNumbers, entryNumbers, inside}
 use Rattle.handshake.specs.TablesLaws.{length-bytesAt, numbers-of}
 use Rattle.vlq.specs.Vlq.{vlqBytes}
-use Rattle.entry_ask.specs.Asked.{lent}
 
 -- the elements of a slice of bytes
 pub all-bytes : (s : List ℕ) → ((i : ℕ) → getD s i 0 < 256) → every isByte s ≡ true

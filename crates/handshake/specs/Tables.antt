@@ -46,6 +46,9 @@ pub record Lent : Type 0 where
   pub features : List ℕ
   pub buffer : List ℕ
 
+abbrev pub lent : List ℕ → List ℕ → List ℕ → Lent
+lent entries features buffer = record { entries = entries; features = features; buffer = buffer }
+
 abbrev pub entryRows : Lent → List EntryRow
 entryRows l = rows (entryRow (l .entries)) 0 (length (l .entries) / 12)
 

@@ -1,6 +1,6 @@
 -- The parts that the writers of handshakes are put together from: what is said of a timestamp before an entry, and the pieces of `build`.
 use Prim.Native.Nat.{ℕ, _+_, _≤_}
-use mathlib.Core.Bool.{true, cond}
+use mathlib.Core.Bool.{true}
 use mathlib.Core.List.{List, [], _∷_, _++_}
 use mathlib.Core.Path.{_≡_}
 use lib.ListN.{length}
@@ -10,10 +10,8 @@ use Rattle.utf8.specs.Utf8.{utf8}
 use Rattle.vlq.specs.Vlq.{vlqBytes}
 use Rattle.vlq.specs.ShortString.{shortStringBytes}
 use Rattle.vlq_write.specs.Asked.{writtenFor}
-use Rattle.zigzag.specs.Zigzag.{zigzagEncode}
-use Rattle.types.specs.Magic.{magicOf}
 use Rattle.handshake.specs.Value.{versionBytes, handshakeBytes, entriesAsked}
-use Rattle.handshake.specs.Writes.{nipopow, built}
+use Rattle.handshake.specs.Writes.{modeFeature, sessionFeature, built}
 use Rattle.handshake.specs.Writes as writes
 use Rattle.handshake_write.specs.declared.Config.{Config}
 
@@ -58,9 +56,9 @@ pub record BuildReady (agent name : List ℕ) : Type 0 where
 unfoldable pub headBytes : Config → List ℕ → List ℕ → List ℕ
 headBytes c agent name = vlqBytes (c .timestamp) ++ (shortStringBytes agent ++ (versionBytes (c .version) ++ shortStringBytes name))
 
--- the bodies of the two features
+-- the bodies of the two features, in which agent and name play no part
 unfoldable pub modeBody : Config → List ℕ
-modeBody c = c .statetype ∷ (cond (c .verifying) 1 0 ∷ (nipopow (c .mode) ++ vlqBytes (zigzagEncode (c .blocks))))
+modeBody c = modeFeature (configOf c [] []) .body
 
 unfoldable pub sessionBody : Config → List ℕ
-sessionBody c = magicOf (c .network) ++ vlqBytes (zigzagEncode (c .session))
+sessionBody c = sessionFeature (configOf c [] []) .body

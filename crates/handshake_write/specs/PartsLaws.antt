@@ -121,15 +121,15 @@ length-magic Testnet = refl
 -- with the numbers that the code has
 module _ (c : Config) (flag z : ℕ) where
   pub mode-parts : flag ≡ cond (c .verifying) 1 0 → z ≡ zigzagEncode (c .blocks) → modeBody c ≡ (c .statetype ∷ flag ∷ []) ++ (nipopow (c .mode) ++ vlqBytes z)
-  unfolding modeBody
+  unfolding modeFeature modeBody
   mode-parts e f = ap₂ (λ (x y : ℕ). c .statetype ∷ (x ∷ (nipopow (c .mode) ++ vlqBytes y))) (sym e) (sym f)
 
   pub length-mode : z ≡ zigzagEncode (c .blocks) → length (modeBody c) ≡ 2 + length (nipopow (c .mode)) + length (vlqBytes z)
-  unfolding modeBody
+  unfolding modeFeature modeBody
   length-mode f = omega (arith, length-append (nipopow (c .mode)) (vlqBytes (zigzagEncode (c .blocks))), ap (λ (y : ℕ). length (vlqBytes y)) f)
 
   pub session-parts : z ≡ zigzagEncode (c .session) → sessionBody c ≡ magicOf (c .network) ++ vlqBytes z
-  unfolding sessionBody
+  unfolding sessionFeature sessionBody
   session-parts f = ap (λ (y : ℕ). magicOf (c .network) ++ vlqBytes y) (sym f)
 
   pub length-session : z ≡ zigzagEncode (c .session) → length (sessionBody c) ≡ 4 + length (vlqBytes z)

@@ -15,7 +15,8 @@ use Rattle.wire.specs.ReaderLaws.{part-got, part-at, length-part, map-value, ma
 use Rattle.wire.specs.ListOfLaws.{listed}
 use Rattle.wire.specs.declared.Part.{Part}
 use Rattle.vlq.specs.Vlq.{vlqLength}
-use Rattle.inventory_read.specs.Parts.{endOf, Header, header, Items, items, itemsStart, itemOf, itemAt, idAt, payloadAfter}
+use Rattle.messages.specs.Message.{Header, header, payloadAfter}
+use Rattle.inventory_read.specs.Parts.{endOf, Items, items, itemsStart, itemOf, itemAt, idAt}
 use Rattle.inventory_read.specs.PartsLaws.{header-ends, items-read, ids-there, ids-missing, item-outside}
 use Rattle.inventory_read.specs.Answers.{inventoryIn, idOf, payloadSum}
 use Rattle.inventory_read.specs.declared.Inventory.{Inventory}

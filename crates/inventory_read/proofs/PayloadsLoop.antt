@@ -5,10 +5,8 @@ use mathlib.Core.List.{List, [], _∷_, _++_}
 use mathlib.Core.Path.{_≡_, ap, _∙_}
 use lib.ListN.{length}
 use Rattle.wire.specs.Reader.{got, refused, mapAnswer, listOf}
-use Rattle.messages.specs.Message.{Payload, payload, total}
+use Rattle.messages.specs.Message.{Payload, total, payloadAfter, payload}
 use Rattle.wire.specs.LoopLaws.{ListSoFar, list-again, list-refused}
-use Rattle.inventory_read.specs.Parts.{payloadAfter}
-use Rattle.inventory_read.specs.PartsLaws.{payload-after}
 
 -- the payload lengths together, after one more payload
 pub total-more : (l : List Payload) (p : Payload) → total (l ++ (p ∷ [])) ≡ total l + length (p .body .bytes)
@@ -19,7 +17,8 @@ total-more (q ∷ l) p = omega (arith, total-more l p)
 -- payloads, by the sum of the lengths so far
 module _ (size : ℕ) {s : List ℕ} {n at₀ sum at i : ℕ} (inv : ListSoFar (payload size) total s n at₀ sum at i) where
   after-these : payload size (inv .list) s at ≡ payloadAfter size sum s at
-  after-these = payload-after size (inv .list) s at ∙ ap (λ (n : ℕ). payloadAfter size n s at) (inv .seen)
+  unfolding payload
+  after-these = ap (λ (n : ℕ). payloadAfter size n s at) (inv .seen)
 
   pub payloads-again : {p : Payload} {next sum′ : ℕ} → i < n → payloadAfter size sum s at ≡ got p next → sum + length (p .body .bytes) ≡ sum′
       → ListSoFar (payload size) total s n at₀ sum′ next (i + 1)

@@ -4,7 +4,8 @@ use mathlib.Core.List.{List}
 use lib.ListN.{length}
 use Rattle.wire.specs.Reader.{Answer, got, refused, Segment}
 use Rattle.messages.specs.Message as Bodies
-use Rattle.inventory_read.specs.Parts.{Header, Items, itemsStart}
+use Rattle.messages.specs.Message.{Header}
+use Rattle.inventory_read.specs.Parts.{Items, itemsStart}
 use Rattle.inventory_read.specs.declared.Inventory.{Inventory}
 use Rattle.inventory_read.specs.declared.Payload.{Payload}
 use Rattle.inventory_read.specs.declared.IdRead.{IdRead}

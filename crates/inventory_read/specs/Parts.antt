@@ -1,13 +1,12 @@
--- What the bodies of 22, 33 and 55 share, where their items start, an item by index, and a payload by the sum of the lengths before it.
+-- What the bodies of 22, 33 and 55 share, where their items start, and an item by index.
 -- That the bodies are these parts is shown in `PartsLaws`.
-use Prim.Native.Nat.{ℕ, _+_}
+use Prim.Native.Nat.{ℕ}
 use mathlib.Core.Bool.{cond}
 use mathlib.Core.List.{List}
-use lib.Dec.{leb, ltb}
+use lib.Dec.{ltb}
 use lib.ListN.{length}
-use Rattle.wire.specs.Reader.{Answer, got, refused, Reader, bind, pure, andThen, guard, byte, Segment, part, listOf}
-use Rattle.vlq.specs.Vlq.{vlqLength}
-use Rattle.messages.specs.Message.{Payload, maxInvObjects, count, payload}
+use Rattle.wire.specs.Reader.{Answer, got, refused, Reader, bind, pure, andThen, Segment, part, listOf}
+use Rattle.messages.specs.Message.{Payload, header, payload}
 
 -- where what was read ends; 0 if it was refused
 abbrev pub endOf : {A : Type 0} → Answer A → ℕ
@@ -15,17 +14,6 @@ endOf (got a next) = next
 endOf (refused m) = 0
 
 -- ---- 22, 33 and 55
-
-pub record Header : Type 0 where
-  pub type : ℕ
-  pub count : ℕ
-
--- type byte, count
-unfoldable pub header : Reader Header
-header =
-    andThen byte (λ type.
-    andThen (count maxInvObjects) (λ n.
-    pure (record { type = type; count = n })))
 
 pub record Items (A : Type 0) : Type 0 where
   pub type : ℕ
@@ -60,14 +48,3 @@ idAt index s = itemAt index (λ before. part 32) s
 
 unfoldable pub payloadAt : ℕ → List ℕ → Answer Payload
 payloadAt index s = itemAt index (payload (length s)) s
-
--- ---- payloads
-
--- a payload in a body of `size` bytes, where the payloads before it have `before` bytes together
-unfoldable pub payloadAfter : ℕ → ℕ → Reader Payload
-payloadAfter size before =
-    andThen (part 32) (λ id.
-    andThen vlqLength (λ n.
-    andThen (guard (leb (before + n) size) 11 n) (λ n.
-    andThen (part n) (λ body.
-    pure (record { id = id; body = body })))))

@@ -11,15 +11,15 @@ use lib.ListN.{length, length-append, take, drop}
 use borrow.Author.Tests.{leb-true, lt-ltb, le-ltb}
 use Rattle.wire.specs.Numbers.{lt-or-ge}
 use Rattle.wire.specs.Reader.{Answer, got, refused, Reader, bind, pure, andThen, byte, Segment, part, fold, listOf, mapAnswer}
-use Rattle.wire.specs.AnswerLaws.{no-answer, value-of, end-of, bind-got, bind-step, bind-twice}
+use Rattle.wire.specs.AnswerLaws.{no-answer, value-of, end-of, bind-got, bind-step}
 use Rattle.wire.specs.ReaderLaws.{part-got, part-missing}
 use Rattle.wire.specs.ListOfLaws.{turn, listed, Indexed, indexed}
 use Rattle.wire.specs.Stable.{Stable}
 use Rattle.wire.specs.StableLaws.{stable-ends, stable-then, stable-pure, stable-guard, stable-byte}
 use Rattle.vlq.specs.Vlq.{vlqLength}
 use Rattle.vlq.specs.VlqLaws.{stable-vlqLength}
-use Rattle.messages.specs.Message.{Payload, Message, modifierResponse, maxInvObjects, count, ids, total, payload, payloads}
-use Rattle.inventory_read.specs.Parts.{endOf, Header, header, Items, items, itemsStart, itemOf, itemAt, payloadAfter}
+use Rattle.messages.specs.Message.{Message, modifierResponse, maxInvObjects, count, Header, header, ids, payload, payloads}
+use Rattle.inventory_read.specs.Parts.{endOf, Items, items, itemsStart, itemOf, itemAt}
 
 -- ---- counts
 
@@ -123,31 +123,24 @@ module _ {A : Type 0} (p : List A → Reader A) (s : List ℕ) where
 abbrev itemised : {A : Type 0} → ℕ → List A → Items A
 itemised type l = record { type = type; list = l }
 
--- a type byte, a count and items, made a message
+-- a header and items, made a message
 module _ {A : Type 0} (p : List A → Reader A) (make : ℕ → List A → Message) (s : List ℕ) where
   abbrev made : Items A → Message
   made i = make (i .type) (i .list)
 
-  items-made : (at : ℕ) → andThen byte (λ type. andThen (count maxInvObjects) (λ n. andThen (listOf n p) (λ l. pure (make type l)))) s at ≡ mapAnswer made (items p s at)
-  unfolding items header mapAnswer
+  items-made : (at : ℕ) → andThen header (λ h. andThen (listOf (h .count) p) (λ l. pure (make (h .type) l))) s at ≡ mapAnswer made (items p s at)
+  unfolding items mapAnswer
   items-made at =
-      bind-twice (byte s at)
-      (λ type m. bind (count maxInvObjects s m) (λ n m. bind (listOf n p s m) (λ l e. got (make type l) e)))
-      (λ type m. bind (count maxInvObjects s m) (λ n m. got (opened type n) m))
+      bind-step (header s at)
+      (λ h m. bind (listOf (h .count) p s m) (λ l e. got (make (h .type) l) e))
       (λ h m. bind (listOf (h .count) p s m) (λ l e. got (itemised (h .type) l) e))
       (λ i e. got (made i) e)
-      (λ type m.
-      bind-twice (count maxInvObjects s m)
-      (λ n m. bind (listOf n p s m) (λ l e. got (make type l) e))
-      (λ n m. got (opened type n) m)
-      (λ h m. bind (listOf (h .count) p s m) (λ l e. got (itemised (h .type) l) e))
+      (λ h m.
+      bind-step (listOf (h .count) p s m)
+      (λ l e. got (make (h .type) l) e)
+      (λ l e. got (itemised (h .type) l) e)
       (λ i e. got (made i) e)
-      (λ n m.
-      bind-step (listOf n p s m)
-      (λ l e. got (make type l) e)
-      (λ l e. got (itemised type l) e)
-      (λ i e. got (made i) e)
-      (λ l e. refl)))
+      (λ l e. refl))
 
 pub ids-items : (make : ℕ → List Segment → Message) (s : List ℕ) (at : ℕ)
     → ids make s at ≡ mapAnswer (λ i. make (i .type) (i .list)) (items (λ before. part 32) s at)
@@ -158,11 +151,6 @@ pub payloads-items : (size : ℕ) (s : List ℕ) (at : ℕ)
     → payloads size s at ≡ mapAnswer (λ i. modifierResponse (i .type) (i .list)) (items (payload size) s at)
 unfolding payloads
 payloads-items size s at = items-made (payload size) modifierResponse s at
-
--- a payload after others is one by the sum of their lengths
-pub payload-after : (size : ℕ) (before : List Payload) (s : List ℕ) (at : ℕ) → payload size before s at ≡ payloadAfter size (total before) s at
-unfolding payload payloadAfter
-payload-after size before s at = refl
 
 -- ---- bodies that are read
 

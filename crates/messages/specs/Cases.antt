@@ -10,7 +10,7 @@ use Rattle.vlq.specs.ShortString.{string, shortString}
 use Rattle.types.specs.declared.Address.the-variants.{None}
 use Rattle.handshake.specs.Entry.{version, addressIf, entry}
 use Rattle.handshake.specs.Value.{addressBytes, featureBytes, versionBytes, entryBytes}
-use Rattle.messages.specs.Message.{Message, getPeers, peers, modifierRequest, modifierResponse, inv, syncInfo, unknown, count, ids, total, payload, payloads, peersBody, whole, message}
+use Rattle.messages.specs.Message.{Message, getPeers, peers, modifierRequest, modifierResponse, inv, syncInfo, unknown, count, header, ids, total, payloadAfter, payload, payloads, peersBody, whole, message}
 use Rattle.messages.specs.Value.{MessageValue, getPeersValue, peersValue, modifierRequestValue, modifierResponseValue, invValue, syncInfoValue, unknownValue, codeOf, idsBytes, payloadBytes, bodyBytes}
 
 pub record Case : Type 0 where
@@ -77,7 +77,7 @@ cases =
     ∷ []
 
 pub all-cases : map (λ (c : Case). message (c .cap) (c .code) (c .body) 0) cases ≡ map (λ (c : Case). c .answer) cases
-unfolding cases message count ids total payload payloads peersBody whole fold listOf groups vlq vlqLength string shortString utf8From utf8 version addressIf entry
+unfolding cases message count header ids total payloadAfter payload payloads peersBody whole fold listOf groups vlq vlqLength string shortString utf8From utf8 version addressIf entry
 all-cases = refl
 
 -- ---- a message's code and the bytes of its body

@@ -31,36 +31,50 @@ count cap = andThen vlqLength (λ n. guard (leb n cap) 10 n)
 abbrev pub maxInvObjects : ℕ
 maxInvObjects = 400
 
+-- what 22, 33 and 55 begin with
+pub record Header : Type 0 where
+  pub type : ℕ
+  pub count : ℕ
+
+-- type byte, count
+unfoldable pub header : Reader Header
+header =
+    andThen byte (λ type.
+    andThen (count maxInvObjects) (λ n.
+    pure (record { type = type; count = n })))
+
 -- 22 and 55: type byte, count, ids of 32 bytes
 unfoldable pub ids : (ℕ → List Segment → Message) → Reader Message
 ids message =
-    andThen byte (λ type.
-    andThen (count maxInvObjects) (λ n.
-    andThen (listOf n (λ before. part 32)) (λ l.
-    pure (message type l))))
+    andThen header (λ h.
+    andThen (listOf (h .count) (λ before. part 32)) (λ l.
+    pure (message (h .type) l)))
 
 -- the payload lengths together
 unfoldable pub total : List Payload → ℕ
 total [] = 0
 total (p ∷ ps) = length (p .body .bytes) + total ps
 
--- an id, a length and that many bytes, in a body of `size` bytes; `before` are the payloads so far
+-- an id, a length and that many bytes, in a body of `size` bytes; `sum` is the payload lengths so far together
 -- Are the payload lengths so far, this one included, together at most the body's length? 11, after the length's 3 and before its bytes
-unfoldable pub payload : ℕ → List Payload → Reader Payload
-payload size before =
+unfoldable pub payloadAfter : ℕ → ℕ → Reader Payload
+payloadAfter size sum =
     andThen (part 32) (λ id.
     andThen vlqLength (λ n.
-    andThen (guard (leb (total before + n) size) 11 n) (λ n.
+    andThen (guard (leb (sum + n) size) 11 n) (λ n.
     andThen (part n) (λ body.
     pure (record { id = id; body = body })))))
+
+-- `before` are the payloads so far
+unfoldable pub payload : ℕ → List Payload → Reader Payload
+payload size before = payloadAfter size (total before)
 
 -- 33: type byte, count, payloads
 unfoldable pub payloads : ℕ → Reader Message
 payloads size =
-    andThen byte (λ type.
-    andThen (count maxInvObjects) (λ n.
-    andThen (listOf n (payload size)) (λ l.
-    pure (modifierResponse type l))))
+    andThen header (λ h.
+    andThen (listOf (h .count) (payload size)) (λ l.
+    pure (modifierResponse (h .type) l)))
 
 -- Peers: count, entries
 unfoldable pub peersBody : ℕ → Reader Message

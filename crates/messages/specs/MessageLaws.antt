@@ -11,14 +11,14 @@ use borrow.Author.Tests.{le-leb, leb-true, not-true}
 use Rattle.wire.specs.BytesLaws.{Each, none, more, each-between, each-append-left, each-append-right, every-each, and-true, length-flatMap-cons}
 use Rattle.wire.specs.ListLaws.{reads-listOf, reads-each}
 use Rattle.wire.specs.Output.{ask}
-use Rattle.wire.specs.Reader.{got, Reader, pure, andThen, byte, Segment, part, listOf}
+use Rattle.wire.specs.Reader.{got, Reader, pure, andThen, Segment, part, listOf}
 use Rattle.wire.specs.ReadsBack.{ReadsBack}
 use Rattle.wire.specs.ReadsBackLaws.{bytesOf, stands-whole, reads-pure, reads-guard, reads-then, reads-last, reads-byte, reads-part, reads-part-of}
 use Rattle.vlq.specs.Vlq.{limit, vlqBytes}
 use Rattle.vlq.specs.VlqLaws.{reads-vlqLength}
 use Rattle.handshake.specs.Value.{AddressTyped, EntryValue, entryBytes, entriesAsked}
 use Rattle.handshake.specs.ValueLaws.{Writable, reads-entry, Holds, asked-writable}
-use Rattle.messages.specs.Message.{Payload, Message, getPeers, peers, modifierRequest, modifierResponse, inv, syncInfo, unknown, maxInvObjects, count, ids, total, payload, payloads, peersBody, whole, message}
+use Rattle.messages.specs.Message.{Payload, Message, getPeers, peers, modifierRequest, modifierResponse, inv, syncInfo, unknown, maxInvObjects, count, Header, header, ids, total, payloadAfter, payload, payloads, peersBody, whole, message}
 use Rattle.messages.specs.Value.{PayloadValue, MessageValue, getPeersValue, peersValue, modifierRequestValue, modifierResponseValue, invValue, syncInfoValue, unknownValue, payloadValue, messageValue, codeOf, idsBytes, payloadBytes, bodyBytes, entriesOf, payloadsWithin, countWithin, unknownCode, codeFree, messageAsked}
 
 -- ---- counts, ids
@@ -27,16 +27,24 @@ reads-count : (cap n : ℕ) → n ≤ limit → n ≤ cap → ReadsBack (count c
 unfolding count
 reads-count cap n h g = reads-last (reads-vlqLength n h) (λ x e. reads-guard (leb x cap) 10 x (le-leb x cap (omega arith)) e)
 
+abbrev headed : ℕ → ℕ → Header
+headed type n = record { type = type; count = n }
+
+reads-header : (type n : ℕ) → n ≤ maxInvObjects → ReadsBack header (λ h. h) (type ∷ vlqBytes n) (headed type n)
+unfolding header
+reads-header type n few =
+    reads-then {w = type ∷ []} {w′ = vlqBytes n} (reads-byte type) (λ t e.
+    reads-last (reads-count maxInvObjects n (omega arith) few) (λ k g. reads-pure (headed t k) (ap₂ headed e g)))
+
 -- what 22, 33 and 55 share: a type byte, a count, and as many items
 module _ {A X : Type 0} (items : ℕ → Reader (List A)) (make : ℕ → List A → Message) (see : A → X) (bytes : X → List ℕ) where
   reads-counted : (code : ℕ) (v : MessageValue) (type : ℕ) (l : List X) → length l ≤ maxInvObjects
       → ReadsBack (items (length l)) (map see) (flatMap bytes l) l → ((k : List A) → map see k ≡ l → messageValue code (make type k) ≡ v)
-      → ReadsBack (andThen byte (λ type. andThen (count maxInvObjects) (λ n. andThen (items n) (λ l. pure (make type l))))) (messageValue code)
+      → ReadsBack (andThen header (λ h. andThen (items (h .count)) (λ l. pure (make (h .type) l)))) (messageValue code)
       (type ∷ (vlqBytes (length l) ++ flatMap bytes l)) v
   reads-counted code v type l few each value =
-      reads-then {w = type ∷ []} {w′ = vlqBytes (length l) ++ flatMap bytes l} (reads-byte type) (λ t e. rw e
-      (reads-then (reads-count maxInvObjects (length l) (omega arith) few) (λ n e. rw e
-      (reads-last each (λ k e. reads-pure (make type k) (value k e))))))
+      reads-then {w = type ∷ vlqBytes (length l)} {w′ = flatMap bytes l} (reads-header type (length l) few) (λ h e. rw e
+      (reads-last each (λ k e. reads-pure (make type k) (value k e))))
 
 reads-ids : (make : ℕ → List Segment → Message) (code : ℕ) (v : MessageValue) (type : ℕ) (l : List (List ℕ))
     → length l ≤ maxInvObjects → Each (λ id. length id ≡ 32) l
@@ -83,7 +91,7 @@ record WritablePayload (p : PayloadValue) : Type 0 where
 
 reads-payload : (size : ℕ) (before : List Payload) (p : PayloadValue) → total before + length (p .body) ≤ size → WritablePayload p
     → ReadsBack (payload size before) payloadValue (payloadBytes p) p
-unfolding payload payloadBytes payloadValue
+unfolding payloadAfter payload payloadBytes payloadValue
 reads-payload size before p fits h =
     reads-then (reads-part-of 32 (p .id) (h .id)) (λ id f.
     reads-then (reads-vlqLength (length (p .body)) (h .body)) (λ n e. rw e

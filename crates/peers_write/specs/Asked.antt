@@ -1,9 +1,9 @@
 -- What the writer of Peers says of an output of len bytes, by sizes, once it is known what is said of the entries.
 use Prim.Native.Nat.{ℕ, _+_}
-use mathlib.Core.Bool.{true, cond}
+use mathlib.Core.Bool.{true}
 use mathlib.Core.List.{List, [], _∷_}
 use mathlib.Core.Path.{_≡_}
-use lib.Dec.{eqb, leb}
+use lib.Dec.{leb}
 use lib.ListN.{length}
 use Rattle.wire.specs.Bytes.{every}
 use Rattle.wire.specs.Output.{ask, asked}
@@ -15,6 +15,7 @@ use Rattle.vlq_write.specs.Asked.{writtenFor}
 use Rattle.frame_write.specs.Asked.{frameLength}
 use Rattle.handshake.specs.Value.{entriesAsked}
 use Rattle.handshake.specs.Tables.{Lent, entryRows, entriesOf, tablesWhole, entryInside}
+use Rattle.entry_ask.specs.Asked.{placed}
 use Rattle.messages.specs.Value.{peersValue, bodyBytes}
 
 -- the entries of a table, as a body
@@ -31,10 +32,10 @@ countSaid cap count len at n =
 -- 16 is asked before the place, everything else after it
 unfoldable pub peersSaid : ℕ → ℕ → ℕ → ℕ → Written → Written
 peersSaid cap count len at (To n) = countSaid cap count len at n
-peersSaid cap count len at (Refused m) = cond (eqb m 16) (Refused 16) (cond (leb at len) (Refused m) (Refused 12))
+peersSaid cap count len at (Refused m) = placed len at (Refused m)
 
 -- every question about the entries of a table is answered "yes"
-pub record Writable (l : Lent) : Type 0 where
+pub record EntriesReady (l : Lent) : Type 0 where
   pub whole : tablesWhole l ≡ true
   pub inside : every (entryInside l) (entryRows l) ≡ true
   pub asked : AllHold (entriesAsked (entriesOf l))

@@ -24,13 +24,13 @@ use Rattle.handshake.specs.Value.{entryBytes, shortStrings, utf8Strings, fewFea
 use Rattle.handshake.specs.Tables.{Lent, entryRow, entryRows, entryOf, entriesOf, tablesWhole, entryInside}
 use Rattle.handshake.specs.Writes.{entryAt, rowAsked}
 use Rattle.handshake.specs.RowsLaws.{length-rows}
-use Rattle.entry_ask.specs.Asked.{rowWhole, entriesSaid}
+use Rattle.entry_ask.specs.Asked.{rowWhole, entriesSaid, placed}
 use Rattle.entry_ask.specs.AskedLaws.{whole-row}
 use Rattle.entry_ask.specs.RowLaws.{each-row-asked}
 use Rattle.messages.specs.Value as Values
 use Rattle.messages.specs.Value.{codeOf, bodyBytes, payloadsWithin, countWithin, codeFree, messageAsked}
 use Rattle.messages.specs.Writes.{writePeers, valueOf, messageWhole, messageInside, messageWritten}
-use Rattle.peers_write.specs.Asked.{peersBytes, countSaid, peersSaid, Writable}
+use Rattle.peers_write.specs.Asked.{peersBytes, countSaid, peersSaid, EntriesReady}
 
 -- ---- lengths
 
@@ -73,7 +73,7 @@ rest-most cap count len at n =
 in-order : (cap count len at n : ℕ) (a b c d e f : Bool)
     → peersSaid cap count len at (asked (ask 16 a ∷ ask 12 b ∷ ask 13 c ∷ ask 4 d ∷ ask 15 e ∷ ask 3 f ∷ []) (To n))
     ≡ asked (ask 16 a ∷ ask 12 (leb at len) ∷ ask 12 b ∷ ask 13 c ∷ ask 4 d ∷ ask 15 e ∷ ask 3 f ∷ []) (rest cap count len at n)
-unfolding peersSaid countSaid asked
+unfolding peersSaid countSaid placed asked
 in-order cap count len at n false b c d e f = refl
 in-order cap count len at n true false c d e f = refl
 in-order cap count len at n true true false d e f = refl
@@ -100,7 +100,7 @@ said-peers network cap l out at =
 -- ---- a writer that accepted
 
 pub asked-peers : (network : Network) (cap : ℕ) (l : Lent) (out : List ℕ) (at : ℕ) {e : ℕ} → messageWritten network cap (writePeers l) out at ≡ To e
-    → Writable l × ((length (peersBytes l) ≤ limit) × (at + frameLength (length (peersBytes l)) ≤ length out))
+    → EntriesReady l × ((length (peersBytes l) ≤ limit) × (at + frameLength (length (peersBytes l)) ≤ length out))
 unfolding messageWritten messageWhole messageInside messageAsked valueOf codeOf Values.entriesOf entriesAsked
 asked-peers network cap l out at {e} p =
     let h = written-accepted _ _ out at _ e p in
@@ -111,7 +111,7 @@ asked-peers network cap l out at {e} p =
 
 -- ---- what was stored
 
-module _ (l : Lent) (yes : Writable l) (k : ℕ) (h : k < length (l .entries) / 12) (out : List ℕ) (at : ℕ) {r : Written}
+module _ (l : Lent) (yes : EntriesReady l) (k : ℕ) (h : k < length (l .entries) / 12) (out : List ℕ) (at : ℕ) {r : Written}
     (says : r ≡ written (ask 16 (rowWhole l k) ∷ []) (rowAsked l k) out at (entryBytes (entryAt l k)))
   where
     pub row-stored : {e : ℕ} {last : List ℕ} → last ≡ outputAfter r out at (entryBytes (entryAt l k)) → r ≡ To e → Wrote out at (entryBytes (entryAt l k)) e last

@@ -10,11 +10,10 @@ ghost use Rattle.vlq.specs.Vlq.{limit};
 ghost use Rattle.frame.specs.Frame.{frameBytes};
 ghost use Rattle.frame_write.specs.Asked.{frameLength};
 ghost use Rattle.handshake.specs.Value.{entryBytes};
-ghost use Rattle.handshake.specs.Tables.{entriesOf};
+ghost use Rattle.handshake.specs.Tables.{lent, entriesOf};
 ghost use Rattle.handshake.specs.Writes.{entryAt};
-ghost use Rattle.entry_ask.specs.Asked.{lent};
 ghost use Rattle.messages.specs.Writes.{writePeers, valueOf, messageBytes, messageWritten};
-ghost use Rattle.peers_write.specs.Asked.{Writable, peersBytes, countSaid, peersSaid};
+ghost use Rattle.peers_write.specs.Asked.{EntriesReady, peersBytes, countSaid, peersSaid};
 use types::Network;
 use wire::Written;
 
@@ -52,15 +51,7 @@ fn ask_peers(len: usize, at: usize, cap: usize, count: usize, said: Written) -> 
 {
     match said {
         Written::To(n) => ask_count(len, at, cap, count, n),
-        Written::Refused(m) => {
-            if m == 16 {
-                return Written::Refused(16);
-            }
-            if len < at {
-                return Written::Refused(12);
-            }
-            Written::Refused(m)
-        }
+        Written::Refused(m) => entry_ask::ask_place(len, at, Written::Refused(m)),
     }
 }
 
@@ -89,7 +80,7 @@ fn put_peers(
     features: &[u32],
     buffer: &[u8],
 )
-    requires { ⌜ Writable (lent (now entries) (now features) (now buffer)) ⌝ }
+    requires { ⌜ EntriesReady (lent (now entries) (now features) (now buffer)) ⌝ }
     requires { ⌜ length (peersBytes (lent (now entries) (now features) (now buffer))) ≤ limit ⌝ }
     requires { ⌜ at + frameLength (length (peersBytes (lent (now entries) (now features) (now buffer)))) ≤ length (now out) ⌝ }
     ensures { λ r. ⌜ now (out .exit) ≡ put (now (out .entry)) at (frameBytes network 2 (peersBytes (lent (now (entries .entry)) (now (features .entry)) (now (buffer .entry))))) ⌝ }
@@ -101,7 +92,7 @@ fn put_peers(
 
 // Stores the count and the entries, and gives the place after them.
 fn put_body(out: &mut [u8], at: usize, entries: &[u32], features: &[u32], buffer: &[u8]) -> usize
-    requires { ⌜ Writable (lent (now entries) (now features) (now buffer)) ⌝ }
+    requires { ⌜ EntriesReady (lent (now entries) (now features) (now buffer)) ⌝ }
     requires { ⌜ at + length (peersBytes (lent (now entries) (now features) (now buffer))) ≤ length (now out) ⌝ }
     ensures { λ r. ⌜ Wrote (now (out .entry)) at (peersBytes (lent (now (entries .entry)) (now (features .entry)) (now (buffer .entry)))) r (now (out .exit)) ⌝ }
 {
@@ -118,7 +109,7 @@ fn put_body(out: &mut [u8], at: usize, entries: &[u32], features: &[u32], buffer
 
 // Stores the entries, one after the other, and gives the place after them.
 fn put_rows(out: &mut [u8], at: usize, entries: &[u32], features: &[u32], buffer: &[u8]) -> usize
-    requires { ⌜ Writable (lent (now entries) (now features) (now buffer)) ⌝ }
+    requires { ⌜ EntriesReady (lent (now entries) (now features) (now buffer)) ⌝ }
     requires { ⌜ at + length (flatMap entryBytes (entriesOf (lent (now entries) (now features) (now buffer)))) ≤ length (now out) ⌝ }
     ensures { λ r. ⌜ Wrote (now (out .entry)) at (flatMap entryBytes (entriesOf (lent (now (entries .entry)) (now (features .entry)) (now (buffer .entry))))) r (now (out .exit)) ⌝ }
 {
@@ -141,7 +132,7 @@ fn put_row(
     buffer: &[u8],
     k: usize,
 ) -> usize
-    requires { ⌜ Writable (lent (now entries) (now features) (now buffer)) × (k < length (now entries) / 12) ⌝ }
+    requires { ⌜ EntriesReady (lent (now entries) (now features) (now buffer)) × (k < length (now entries) / 12) ⌝ }
     requires { ⌜ at + length (entryBytes (entryAt (lent (now entries) (now features) (now buffer)) k)) ≤ length (now out) ⌝ }
     ensures { λ r. ⌜ Wrote (now (out .entry)) at (entryBytes (entryAt (lent (now (entries .entry)) (now (features .entry)) (now (buffer .entry))) k)) r (now (out .exit)) ⌝ }
 {

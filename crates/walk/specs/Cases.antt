@@ -25,6 +25,7 @@ use Rattle.handshake.specs.Value as Values
 use Rattle.handshake.specs.Verdict.{firstFeature, otherMagic, validatePeer}
 use Rattle.frame.specs.Frame.{header, body, frame, checkedBytes, frameBytes}
 use Rattle.messages.specs.Message.{getPeers, count, ids, peersBody, message}
+use Rattle.messages.specs.Message.{header as inventoryHeader}
 use Rattle.messages.specs.Value.{codeOf, bodyBytes, entriesOf, payloadsWithin, countWithin, unknownCode, codeFree, messageAsked}
 use Rattle.messages.specs.Writes.{writeGetPeers, writeUnknown, valueOf, messageWhole, messageInside, messageWritten}
 use Rattle.walk.specs.Walk as Walk
@@ -224,27 +225,27 @@ bodyCases =
 
 pub all-bodies : map (λ (c : BodyCase). judged (frameItem (c .network) (c .cap) (got (record { code = c .code; body = record { start = 24; bytes = c .body } }) 100))) bodyCases
     ≡ map (λ (c : BodyCase). c .answer) bodyCases
-unfolding bodyCases frameItem messageItem messageVerdict bogusCount bogus someContains contains alwaysV4 alwaysV6 mainnetV4 mainnetV6 message peersBody ids count entry version addressIf address addressOf shortString string utf8 utf8From vlq vlqLength groups listOf fold bigEndian bigEndianFrom
+unfolding bodyCases frameItem messageItem messageVerdict bogusCount bogus someContains contains alwaysV4 alwaysV6 mainnetV4 mainnetV6 message peersBody ids inventoryHeader count entry version addressIf address addressOf shortString string utf8 utf8From vlq vlqLength groups listOf fold bigEndian bigEndianFrom
 all-bodies = refl
 
 -- ---- the session of 20 bytes, written into 23
 
 -- one entry, without features
-abbrev lent : Tables.Lent
-lent = record { entries = 0 ∷ 2 ∷ 6 ∷ 0 ∷ 1 ∷ 2 ∷ 0 ∷ 0 ∷ 0 ∷ 0 ∷ 0 ∷ 0 ∷ []; features = []; buffer = 0x61 ∷ 0x62 ∷ [] }
+abbrev oneEntry : Tables.Lent
+oneEntry = Tables.lent (0 ∷ 2 ∷ 6 ∷ 0 ∷ 1 ∷ 2 ∷ 0 ∷ 0 ∷ 0 ∷ 0 ∷ 0 ∷ 0 ∷ []) [] (0x61 ∷ 0x62 ∷ [])
 
 -- the first, third and fifth are refused: 15, 12 and 14
 abbrev fiveWrites : List Write
 fiveWrites =
     writeMessage (writeUnknown 22 [])
-    ∷ writeHandshake 300 lent 0
-    ∷ writeHandshake 300 lent 1
+    ∷ writeHandshake 300 oneEntry 0
+    ∷ writeHandshake 300 oneEntry 1
     ∷ writeMessage writeGetPeers
     ∷ writeMessage writeGetPeers
     ∷ []
 
 pub all-writes : writeAll Mainnet 64 fiveWrites (replicate 23 7) 0
-    ≡ record { out = session ++ (7 ∷ 7 ∷ 7 ∷ []); at = 20; accepted = writeHandshake 300 lent 0 ∷ writeMessage writeGetPeers ∷ [] }
+    ≡ record { out = session ++ (7 ∷ 7 ∷ 7 ∷ []); at = 20; accepted = writeHandshake 300 oneEntry 0 ∷ writeMessage writeGetPeers ∷ [] }
 unfolding writeAll said writeBytes after handshakeWritten messageWritten written outputAfter asked put messageWhole messageInside valueOf messageAsked entriesOf payloadsWithin countWithin bodyBytes codeOf codeFree unknownCode frameBytes checkedBytes bigEndianBytes every Values.entriesAsked Values.shortStrings Values.utf8Strings Values.fewFeatures Values.lengthsWithin Values.handshakeBytes Values.entryBytes Values.versionBytes Values.addressBytes Values.featureBytes vlqBytes vlqIn utf8 utf8From leadOf leadIn rows rowInside Tables.tablesWhole Tables.wholeRows Tables.rows Tables.entryNumbers Tables.featureNumbers Tables.entryInside Tables.inside Tables.featureInside Tables.entryOf Tables.featureOf addressOf flatMap
 all-writes = refl
 
@@ -252,8 +253,8 @@ all-writes = refl
 pub five-proper : AllTyped fiveWrites × HandshakeFirst (writeAll Mainnet 64 fiveWrites (replicate 23 7) 0 .accepted)
 unfolding Typed MessageTyped bytesTyped every isHandshake
 five-proper =
-    let one : Typed (writeHandshake 300 lent 0) = (omega arith, refl) in
-    let two : Typed (writeHandshake 300 lent 1) = (omega arith, refl) in (
+    let one : Typed (writeHandshake 300 oneEntry 0) = (omega arith, refl) in
+    let two : Typed (writeHandshake 300 oneEntry 1) = (omega arith, refl) in (
       Writes.more tt (Writes.more one (Writes.more two (Writes.more tt (Writes.more tt Writes.none)))),
       rw all-writes (first refl (Writes.more refl Writes.none)),
     )

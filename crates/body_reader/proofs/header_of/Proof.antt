@@ -1,7 +1,7 @@
 -- `body_reader::header_of` meets its contract: the cases of the two answers and of the test.
 use borrow.Author.Needs.{needs}
 use borrow.Author.Tests.{le-leb, lt-leb}
-use Rattle.body_reader.specs.Header.{maxInvObjects}
+use Rattle.messages.specs.Message.{maxInvObjects}
 use Rattle.body_reader.proofs.header_of.Statement.{statement}
 use Rattle.body_reader.proofs.header_of.Tie as tie
 

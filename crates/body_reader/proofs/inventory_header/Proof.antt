@@ -52,8 +52,9 @@ use Rattle.vlq.proofs.ByteRead as S₁
 use Rattle.vlq.proofs.ByteRead.Laws as S₁′
 use Rattle.vlq.proofs.VlqRead as S₂
 use Rattle.vlq.proofs.VlqRead.Laws as S₂′
+use Rattle.messages.specs.Message.{header}
 use Rattle.body_reader.specs.Reading.{readBy, movedBy}
-use Rattle.body_reader.specs.Header.{header, headerOf, headerAnswer}
+use Rattle.body_reader.specs.Header.{headerOf, headerAnswer}
 use Rattle.body_reader.specs.HeaderLaws.{header-reads}
 use Rattle.body_reader.specs.declared.BodyReader.{BodyReader}
 use Rattle.body_reader.specs.declared.HeaderRead.{HeaderRead}

@@ -5,7 +5,8 @@ use borrow.Author.Needs.{needs}
 use borrow.Author.Tests.{not-true, not-false}
 use Rattle.wire.specs.Output.{asked}
 use Rattle.handshake.specs.Value.{entriesAsked}
-use Rattle.entry_ask.specs.Asked.{lent, entriesSaid}
+use Rattle.handshake.specs.Tables.{lent}
+use Rattle.entry_ask.specs.Asked.{entriesSaid}
 use Rattle.entry_ask.specs.AskedLaws.{rows-inside, rows-short, rows-utf8, rows-count, rows-lengths}
 use Rattle.entry_ask.proofs.ask_entries.Statement.{statement}
 use Rattle.entry_ask.proofs.ask_entries.Tie as tie

@@ -3,7 +3,7 @@ use mathlib.Core.Path.{sym, _∙_}
 use denote.Ref.{now}
 use borrow.Author.Needs.{needs}
 use borrow.Author.Tests.{not-true, not-false}
-use Rattle.entry_ask.specs.Asked.{lent}
+use Rattle.handshake.specs.Tables.{lent}
 use Rattle.entry_ask.specs.AskedLaws.{entry-broken, entry-row}
 use Rattle.entry_ask.proofs.ask_entry.Statement.{statement}
 use Rattle.entry_ask.proofs.ask_entry.Tie as tie

@@ -8,7 +8,8 @@ use borrow.Author.Tests.{le-leb, lt-leb, not-true, not-false}
 use Rattle.wire.specs.Bytes.{every}
 use Rattle.wire.specs.Output.{asked}
 use Rattle.handshake.specs.Value.{entriesAsked}
-use Rattle.entry_ask.specs.Asked.{lent, rowHolds, partsSaid}
+use Rattle.handshake.specs.Tables.{lent}
+use Rattle.entry_ask.specs.Asked.{rowHolds, partsSaid}
 use Rattle.entry_ask.specs.AskedLaws.{own-short, own-utf8, few-count}
 use Rattle.entry_ask.proofs.ask_parts.Statement.{statement}
 use Rattle.entry_ask.proofs.ask_parts.Tie as tie

@@ -4,7 +4,8 @@ use mathlib.Core.Path.{sym, ap, _∙_}
 use denote.Ref.{now}
 use borrow.Author.Needs.{needs}
 use borrow.Author.Tests.{not-true, not-false}
-use Rattle.entry_ask.specs.Asked.{lent, numbersWhole, partsSaid}
+use Rattle.handshake.specs.Tables.{lent}
+use Rattle.entry_ask.specs.Asked.{numbersWhole, partsSaid}
 use Rattle.entry_ask.specs.AskedLaws.{row-outside, row-broken, row-parts}
 use Rattle.entry_ask.proofs.ask_row.Statement.{statement}
 use Rattle.entry_ask.proofs.ask_row.Tie as tie

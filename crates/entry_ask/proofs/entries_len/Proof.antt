@@ -10,10 +10,10 @@ use borrow.Author.Needs.{needs}
 use Rattle.vlq.specs.Vlq.{limit}
 use Rattle.handshake.specs.declared.EntryRow.{EntryRow}
 use Rattle.handshake.specs.Value.{EntryValue, entryBytes}
-use Rattle.handshake.specs.Tables.{rows, entryRow, entryOf, entriesOf}
+use Rattle.handshake.specs.Tables.{lent, rows, entryRow, entryOf, entriesOf}
 use Rattle.handshake.specs.TablesLaws.{every-row}
 use Rattle.handshake.specs.RowsLaws.{bytes-next, bytes-none}
-use Rattle.entry_ask.specs.Asked.{lent, rowHolds}
+use Rattle.entry_ask.specs.Asked.{rowHolds}
 use Rattle.entry_ask.specs.AskedLaws.{own-entry, row-few}
 use Rattle.entry_ask.specs.declared.About.the-variants.{Count}
 use Rattle.entry_ask.proofs.entries_len.Statement.{statement}

@@ -6,8 +6,7 @@ use mathlib.Core.Path.{ap}
 use denote.Ref.{now}
 use lib.ListN.{length}
 use borrow.Author.Needs.{needs}
-use Rattle.handshake.specs.Tables.{bytesAt}
-use Rattle.entry_ask.specs.Asked.{lent}
+use Rattle.handshake.specs.Tables.{lent, bytesAt}
 use Rattle.entry_ask.specs.LengthLaws.{length-bytesAt-le, length-entry, length-head}
 use Rattle.entry_ask.proofs.entry_len.Statement.{statement}
 use Rattle.entry_ask.proofs.entry_len.Tie as tie

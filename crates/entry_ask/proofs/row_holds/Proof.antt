@@ -4,7 +4,8 @@ use mathlib.Core.List.{[]}
 use mathlib.Core.Path.{sym, _∙_}
 use denote.Ref.{now}
 use borrow.Author.Needs.{needs}
-use Rattle.entry_ask.specs.Asked.{lent, rowHolds}
+use Rattle.handshake.specs.Tables.{lent}
+use Rattle.entry_ask.specs.Asked.{rowHolds}
 use Rattle.entry_ask.specs.AskedLaws.{own-short, own-utf8, few-count, features-lengths}
 use Rattle.entry_ask.proofs.row_holds.Statement.{statement}
 use Rattle.entry_ask.proofs.row_holds.Tie as tie

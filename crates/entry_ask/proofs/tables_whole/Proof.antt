@@ -4,8 +4,7 @@ use mathlib.Core.Path.{sym, _∙_}
 use denote.Ref.{now}
 use borrow.Author.Needs.{needs}
 use borrow.Author.Tests.{eq-eqb, ne-eqb, not-true, not-false}
-use Rattle.handshake.specs.Tables.{wholeRows, tablesWhole}
-use Rattle.entry_ask.specs.Asked.{lent}
+use Rattle.handshake.specs.Tables.{lent, wholeRows, tablesWhole}
 use Rattle.entry_ask.specs.AskedLaws.{features-numbers, rows-numbers}
 use Rattle.entry_ask.proofs.tables_whole.Statement.{statement}
 use Rattle.entry_ask.proofs.tables_whole.Tie as tie

@@ -5,9 +5,8 @@ use mathlib.Core.Path.{_∙_}
 use denote.Ref.{now}
 use lib.ListN.{length-set}
 use Rattle.wire.specs.OutputLaws.{wrote-then, wrote-byte, wrote-length}
-use Rattle.handshake.specs.Tables.{inside, entryInside}
+use Rattle.handshake.specs.Tables.{lent, inside, entryInside}
 use Rattle.handshake.specs.TablesLaws.{address-part, own-range}
-use Rattle.entry_ask.specs.Asked.{lent}
 use Rattle.entry_ask.specs.LengthLaws.{entry-parts, length-entry}
 use Rattle.entry_ask.specs.AskedLaws.{own-short}
 use Rattle.entry_write.proofs.put_entry.Statement.{statement}

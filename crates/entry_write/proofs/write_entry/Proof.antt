@@ -7,8 +7,8 @@ use borrow.Author.Needs.{needs}
 use borrow.Author.Tests.{not-true, not-false}
 use Rattle.wire.specs.Output.{ask, asked, written, outputAfter}
 use Rattle.handshake.specs.Value.{entryBytes}
+use Rattle.handshake.specs.Tables.{lent}
 use Rattle.handshake.specs.Writes.{entryAt, rowAsked, entryWritten}
-use Rattle.entry_ask.specs.Asked.{lent}
 use Rattle.entry_ask.specs.AskedLaws.{whole-row}
 use Rattle.entry_write.proofs.write_entry.Statement.{statement}
 use Rattle.entry_write.proofs.write_entry.Tie as tie

@@ -8,8 +8,9 @@ use Rattle.wire.specs.Output.{ask}
 use Rattle.wire.specs.OutputLaws.{wrote-then, wrote-length}
 use Rattle.vlq.specs.Vlq.{vlqBytes}
 use Rattle.handshake.specs.Value.{entryBytes, handshakeBytes}
+use Rattle.handshake.specs.Tables.{lent}
 use Rattle.handshake.specs.Writes.{entryAt, rowAsked}
-use Rattle.entry_ask.specs.Asked.{lent, rowWhole}
+use Rattle.entry_ask.specs.Asked.{rowWhole}
 use Rattle.handshake_write.specs.PartsLaws.{wrote-end, length-handshake}
 use Rattle.handshake_write.proofs.put_handshake.Statement.{statement}
 use Rattle.handshake_write.proofs.put_handshake.Tie as tie

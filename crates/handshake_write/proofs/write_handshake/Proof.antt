@@ -7,9 +7,8 @@ use Rattle.wire.specs.Output.{ask}
 use Rattle.wire.specs.OutputLaws.{wrote-length}
 use Rattle.vlq_write.specs.CheckedLaws.{accepted, stored, kept}
 use Rattle.handshake.specs.Value.{handshakeBytes}
-use Rattle.handshake.specs.Tables.{tablesWhole}
+use Rattle.handshake.specs.Tables.{lent, tablesWhole}
 use Rattle.handshake.specs.Writes.{rowAsked, handshakeAt, handshakeWritten}
-use Rattle.entry_ask.specs.Asked.{lent}
 use Rattle.entry_ask.specs.AskedLaws.{whole-row}
 use Rattle.handshake_write.specs.PartsLaws.{handshake-said}
 use Rattle.handshake_write.proofs.write_handshake.Statement.{statement}

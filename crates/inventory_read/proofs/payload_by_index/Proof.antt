@@ -5,7 +5,6 @@ use lib.ListN.{length}
 use Rattle.wire.specs.ReaderLaws.{map-got, map-refused, map-refusal}
 use Rattle.messages.specs.Message.{total, payload}
 use Rattle.inventory_read.specs.Parts.{payloadAt}
-use Rattle.inventory_read.specs.PartsLaws.{payload-after}
 use Rattle.inventory_read.specs.Answers.{inventoryIn, inventoryAnswer, sumAnswer}
 use Rattle.inventory_read.proofs.AnswerLaws.{item-refused, item-past, item-after, item-not-after}
 use borrow.Author.Needs.{needs}
@@ -20,14 +19,13 @@ returns c =
     rw (item-past (payload (length (now (a .body)))) (a .index) (now (a .body)) (q .1) (q .2) (c .if1 .taken), map-refusal)
 
 returns-2 : tie.Need-returns-2
-unfolding payloadAt
+unfolding payload payloadAt
 returns-2 c =
     let a = c .before .before .before .before .before .before .before .before .before .before .before .before .args in
     let q = map-got (inventoryIn (now (a .body))) (sym (c .before .before .before .before .before .before .before .before .before .before .parse-modifier-response-body .ensures) ∙ ap inventoryAnswer (c .before .before .before .before .before .before .before .before .payloads .given .1)) in
     let r = map-got total (sym (c .before .before .before .before .skip-payloads .ensures) ∙ ap sumAnswer (c .before .before .at .given .1)) in
     rw (
       item-after (payload (length (now (a .body)))) (a .index) (now (a .body)) (q .1) (q .2) (c .before .before .before .before .before .if1 .left) (r .1),
-      payload-after (length (now (a .body))) (r .0) (now (a .body)) (c .before .before .at .given .0 .0 .0),
       r .2,
     ) (c .payload-after .ensures)
 

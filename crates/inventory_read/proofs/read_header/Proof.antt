@@ -1,7 +1,7 @@
 -- `inventory_read::read_header` meets its contract: the definition, rewritten with what each of its readers answered.
 use mathlib.Core.Path.{sym, ap, _∙_}
 use Rattle.vlq.specs.Answers.{byteAnswer}
-use Rattle.inventory_read.specs.Parts.{header}
+use Rattle.messages.specs.Message.{header}
 use Rattle.inventory_read.specs.Answers.{countAnswer}
 use borrow.Author.Needs.{needs}
 use Rattle.inventory_read.proofs.read_header.Statement.{statement}

@@ -8,7 +8,7 @@ use borrow.Author.Tests.{leb-true, not-true, not-false}
 use Rattle.wire.specs.Reader.{partOf}
 use Rattle.wire.specs.ReaderLaws.{map-got, map-refused, map-refusal}
 use Rattle.vlq.specs.Answers.{vlqAnswer, partAnswer}
-use Rattle.inventory_read.specs.Parts.{payloadAfter}
+use Rattle.messages.specs.Message.{payloadAfter}
 use Rattle.inventory_read.proofs.AnswerLaws.{payload-got}
 use borrow.Author.Needs.{needs}
 use Rattle.inventory_read.proofs.read_payload.Statement.{statement}

@@ -3,7 +3,7 @@ use native.Mathlib.Omega.{arith}
 use denote.Ref.{now}
 use borrow.Author.Needs.{needs}
 use Rattle.wire.specs.OutputLaws.{wrote-then, wrote-length}
-use Rattle.entry_ask.specs.Asked.{lent}
+use Rattle.handshake.specs.Tables.{lent}
 use Rattle.peers_write.specs.PeersLaws.{peers-parts, length-peers, count-stored}
 use Rattle.peers_write.proofs.put_body.Statement.{statement}
 use Rattle.peers_write.proofs.put_body.Tie as tie

@@ -7,7 +7,7 @@ use lib.ListN.{length}
 use borrow.Author.Needs.{needs}
 use Rattle.vlq.specs.VlqLaws.{vlq-pos}
 use Rattle.frame_write.specs.FrameWriteLaws.{frameLength-body, closed}
-use Rattle.entry_ask.specs.Asked.{lent}
+use Rattle.handshake.specs.Tables.{lent}
 use Rattle.peers_write.specs.Asked.{peersBytes}
 use Rattle.peers_write.specs.PeersLaws.{length-peers}
 use Rattle.peers_write.proofs.put_peers.Statement.{statement}

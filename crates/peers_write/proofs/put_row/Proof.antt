@@ -1,7 +1,7 @@
 -- `peers_write::put_row` meets its contract: every question about the row holds and it has room, so that it was written.
 use denote.Ref.{now}
 use borrow.Author.Needs.{needs}
-use Rattle.entry_ask.specs.Asked.{lent}
+use Rattle.handshake.specs.Tables.{lent}
 use Rattle.peers_write.specs.PeersLaws.{row-stored, row-accepted}
 use Rattle.peers_write.proofs.put_row.Statement.{statement}
 use Rattle.peers_write.proofs.put_row.Tie as tie

@@ -4,9 +4,8 @@ use native.Mathlib.Omega.{arith}
 use lib.ListN.{length}
 use borrow.Author.Needs.{needs}
 use Rattle.handshake.specs.Value.{entryBytes}
-use Rattle.handshake.specs.Tables.{entryRow, entryOf, entriesOf, entryInside}
+use Rattle.handshake.specs.Tables.{lent, entryRow, entryOf, entriesOf, entryInside}
 use Rattle.handshake.specs.PuttingLaws.{Putting, putting-start, putting-room, putting-turn, putting-end}
-use Rattle.entry_ask.specs.Asked.{lent}
 use Rattle.peers_write.proofs.put_rows.Statement.{statement}
 use Rattle.peers_write.proofs.put_rows.Tie as tie
 

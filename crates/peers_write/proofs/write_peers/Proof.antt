@@ -3,7 +3,7 @@ use mathlib.Core.Path.{sym, _∙_}
 use denote.Ref.{now}
 use borrow.Author.Needs.{needs}
 use Rattle.wire.specs.StandingLaws.{after-put, after-refused}
-use Rattle.entry_ask.specs.Asked.{lent}
+use Rattle.handshake.specs.Tables.{lent}
 use Rattle.messages.specs.Value.{codeOf}
 use Rattle.messages.specs.Writes.{valueOf}
 use Rattle.peers_write.specs.PeersLaws.{said-peers, asked-peers}
