@@ -16,6 +16,7 @@ fn main() {
     let shown = archive.display();
     assert!(archive.is_file(), "{shown} is missing: run `rt staticlib exports` in the repository");
     println!("cargo:rerun-if-changed={shown}");
+    println!("cargo:rustc-env=EXPORTS_ARCHIVE={shown}");
     println!("cargo:rustc-link-search=native={}", folder.display());
     println!("cargo:rustc-link-lib=static=exports");
 }

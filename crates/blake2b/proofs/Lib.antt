@@ -3,7 +3,6 @@ pub mod Blocks
 pub mod Chain
 pub mod Counter
 pub mod Elements
-pub mod Filled
 pub mod Order
 pub mod PartsLaws
 pub mod Table

@@ -3,6 +3,7 @@ pub mod AppendixA
 pub mod Blake2b
 pub mod Blake2bLaws
 pub mod CheckLaws
+pub mod FilledLaws
 pub mod Parts
 pub mod Running
 pub mod RunningLaws

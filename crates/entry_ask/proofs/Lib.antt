@@ -1,1 +1,2 @@
 pub mod ClampLaws
+pub mod AnsweredLaws

@@ -1,4 +1,5 @@
 pub mod Asked
+pub mod Answered
 pub mod LengthLaws
 pub mod AskedLaws
 pub mod RowLaws

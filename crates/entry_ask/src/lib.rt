@@ -10,7 +10,8 @@ ghost use Rattle.wire.specs.Bytes.{every};
 ghost use Rattle.vlq.specs.Vlq.{limit};
 ghost use Rattle.handshake.specs.Entry.{addressOf};
 ghost use Rattle.handshake.specs.Value.{addressBytes, featureBytes, entryBytes, shortStrings, utf8Strings};
-ghost use Rattle.handshake.specs.Tables.{lent, rows, featureRow, entryRow, bytesAt, featureOf, entryOf, entriesOf, entryNumbers, tablesWhole, entryInside};
+ghost use Rattle.handshake.specs.Tables.{lent, rows, featureRow, entryRow, bytesAt, featureOf, entryOf, entriesOf, featureNumbers, entryNumbers, tablesWhole, entryInside};
+ghost use Rattle.entry_ask.specs.Answered.{UpTo, FeatureAnswered, Answered, TablesAnswered, Fits};
 ghost use Rattle.entry_ask.specs.Asked.{numbersWhole, rowHolds, featureHolds, entriesSaid, entrySaid, rowSaid, partsSaid, placed};
 use handshake::EntryRow;
 use handshake::FeatureRow;
@@ -34,25 +35,10 @@ enum About {
 pub fn ask_entries(entries: &[u32], features: &[u32], buffer: &[u8]) -> Written
     ensures { λ r. ⌜ r ≡ entriesSaid (lent (now (entries .entry)) (now (features .entry)) (now (buffer .entry))) ⌝ }
 {
-    if !tables_whole(entries, features, buffer) {
-        return Written::Refused(16);
+    if tables_ready(entries, features, buffer) {
+        return Written::To(entries_len(entries, features, buffer));
     }
-    if !every_row(About::Inside, entries, features, buffer) {
-        return Written::Refused(12);
-    }
-    if !every_row(About::Short, entries, features, buffer) {
-        return Written::Refused(13);
-    }
-    if !every_row(About::Utf8, entries, features, buffer) {
-        return Written::Refused(4);
-    }
-    if !every_row(About::Count, entries, features, buffer) {
-        return Written::Refused(15);
-    }
-    if !every_row(About::Lengths, entries, features, buffer) {
-        return Written::Refused(3);
-    }
-    Written::To(entries_len(entries, features, buffer))
+    ask_in_order(entries, features, buffer)
 }
 
 // What is said of the entry in row k: the refusal number, or how many bytes it is written as. 16 is asked of every row of both tables.
@@ -72,7 +58,10 @@ pub fn ask_row(entries: &[u32], features: &[u32], buffer: &[u8], k: usize) -> Wr
     if entries.len() / 12 <= k {
         return Written::Refused(12);
     }
-    let e = entry_at(entries, k);
+    let e = whole_entry(entries, k);
+    if row_ready(features, buffer, e) {
+        return Written::To(entry_len(features, buffer, e));
+    }
     if !row_whole(features, buffer, e) {
         return Written::Refused(16);
     }
@@ -135,6 +124,37 @@ pub fn address_size(l: u32) -> u32
 pub fn entry_at(t: &[u32], k: usize) -> EntryRow
     ensures { λ r. ⌜ r ≡ entryRow (now (t .entry)) k ⌝ }
 {
+    if k < t.len() / 12 {
+        whole_entry(t, k)
+    } else {
+        partial_entry(t, k)
+    }
+}
+
+fn whole_entry(t: &[u32], k: usize) -> EntryRow
+    requires { ⌜ 12 * k + 12 ≤ length (now t) ⌝ }
+    ensures { λ r. ⌜ r ≡ entryRow (now (t .entry)) k ⌝ }
+{
+    let b = 12 * k;
+    EntryRow {
+        agentat: t[b],
+        agentlen: t[b + 1],
+        major: t[b + 2],
+        minor: t[b + 3],
+        patch: t[b + 4],
+        nameat: t[b + 5],
+        namelen: t[b + 6],
+        addrlen: t[b + 7],
+        addrat: t[b + 8],
+        port: t[b + 9],
+        first: t[b + 10],
+        count: t[b + 11],
+    }
+}
+
+fn partial_entry(t: &[u32], k: usize) -> EntryRow
+    ensures { λ r. ⌜ r ≡ entryRow (now (t .entry)) k ⌝ }
+{
     let b = 12 * min_of(k, t.len() / 12 + 1);
     EntryRow {
         agentat: number_at(t, b),
@@ -154,6 +174,28 @@ pub fn entry_at(t: &[u32], k: usize) -> EntryRow
 
 // Row k of a feature table, with 0 for each number that is not there.
 pub fn feature_at(t: &[u32], k: usize) -> FeatureRow
+    ensures { λ r. ⌜ r ≡ featureRow (now (t .entry)) k ⌝ }
+{
+    if k < t.len() / 3 {
+        whole_feature(t, k)
+    } else {
+        partial_feature(t, k)
+    }
+}
+
+fn whole_feature(t: &[u32], k: usize) -> FeatureRow
+    requires { ⌜ 3 * k + 3 ≤ length (now t) ⌝ }
+    ensures { λ r. ⌜ r ≡ featureRow (now (t .entry)) k ⌝ }
+{
+    let b = 3 * k;
+    FeatureRow {
+        id: t[b],
+        at: t[b + 1],
+        len: t[b + 2],
+    }
+}
+
+fn partial_feature(t: &[u32], k: usize) -> FeatureRow
     ensures { λ r. ⌜ r ≡ featureRow (now (t .entry)) k ⌝ }
 {
     let b = 3 * min_of(k, t.len() / 3 + 1);
@@ -178,6 +220,31 @@ fn min_of(a: usize, b: usize) -> usize
 }
 
 // ---- questions
+
+// The questions of all entries, each over all rows before the next.
+fn ask_in_order(entries: &[u32], features: &[u32], buffer: &[u8]) -> Written
+    ensures { λ r. ⌜ r ≡ entriesSaid (lent (now (entries .entry)) (now (features .entry)) (now (buffer .entry))) ⌝ }
+{
+    if !tables_whole(entries, features, buffer) {
+        return Written::Refused(16);
+    }
+    if !every_row(About::Inside, entries, features, buffer) {
+        return Written::Refused(12);
+    }
+    if !every_row(About::Short, entries, features, buffer) {
+        return Written::Refused(13);
+    }
+    if !every_row(About::Utf8, entries, features, buffer) {
+        return Written::Refused(4);
+    }
+    if !every_row(About::Count, entries, features, buffer) {
+        return Written::Refused(15);
+    }
+    if !every_row(About::Lengths, entries, features, buffer) {
+        return Written::Refused(3);
+    }
+    Written::To(entries_len(entries, features, buffer))
+}
 
 // Is the question answered "yes" for each row of the entry table?
 fn every_row(about: About, entries: &[u32], features: &[u32], buffer: &[u8]) -> bool
@@ -376,6 +443,118 @@ fn ask_room(len: usize, at: usize, n: usize) -> Written
     Written::To(at + n)
 }
 
+// ---- every question at once
+
+// Is every question answered "yes" for both tables? If not, the order of the questions tells what is said.
+fn tables_ready(entries: &[u32], features: &[u32], buffer: &[u8]) -> bool
+    ensures { λ r. ⌜ (r ≡ true → TablesAnswered (lent (now (entries .entry)) (now (features .entry)) (now (buffer .entry)))) ⌝ }
+{
+    if entries.len() % 12 != 0 {
+        return false;
+    }
+    if features.len() % 3 != 0 {
+        return false;
+    }
+    if !every_id(features) {
+        return false;
+    }
+    rows_ready(entries, features, buffer)
+}
+
+fn every_id(features: &[u32]) -> bool
+    ensures { λ r. ⌜ r ≡ every featureNumbers (rows (featureRow (now (features .entry))) 0 (length (now (features .entry)) / 3)) ⌝ }
+{
+    let n = features.len() / 3;
+    let mut k: usize = 0;
+    while k < n {
+        if 256 <= features[3 * k] {
+            return false;
+        }
+        k += 1;
+    }
+    true
+}
+
+fn rows_ready(entries: &[u32], features: &[u32], buffer: &[u8]) -> bool
+    ensures { λ r. ⌜ (r ≡ true → UpTo (λ i. Answered (now (features .entry)) (now (buffer .entry)) (entryRow (now (entries .entry)) i)) 0 (length (now (entries .entry)) / 12)) ⌝ }
+{
+    let n = entries.len() / 12;
+    let mut k: usize = 0;
+    while k < n {
+        if !row_ready(features, buffer, whole_entry(entries, k)) {
+            return false;
+        }
+        k += 1;
+    }
+    true
+}
+
+fn row_ready(features: &[u32], buffer: &[u8], e: EntryRow) -> bool
+    ensures { λ r. ⌜ (r ≡ true → Answered (now (features .entry)) (now (buffer .entry)) e) ⌝ }
+{
+    if !entry_numbers(e) {
+        return false;
+    }
+    if !row_fits(features.len() / 3, buffer.len(), e) {
+        return false;
+    }
+    if !features_ready(features, buffer, e.first as usize, e.count as usize) {
+        return false;
+    }
+    strings_utf8(buffer, e)
+}
+
+// Is a row inside a table of so many feature rows and a buffer of len bytes, and short enough?
+fn row_fits(rows: usize, len: usize, e: EntryRow) -> bool
+    ensures { λ r. ⌜ (r ≡ true → Fits rows len e) ⌝ }
+{
+    if !is_inside(len, e.agentat, e.agentlen) {
+        return false;
+    }
+    if !is_inside(len, e.nameat, e.namelen) {
+        return false;
+    }
+    if !address_inside(len, e) {
+        return false;
+    }
+    if 255 < e.agentlen {
+        return false;
+    }
+    if 255 < e.namelen {
+        return false;
+    }
+    if 255 < e.count {
+        return false;
+    }
+    is_inside(rows, e.first, e.count)
+}
+
+fn features_ready(features: &[u32], buffer: &[u8], first: usize, count: usize) -> bool
+    requires { ⌜ first + count ≤ length (now features) / 3 ⌝ }
+    ensures { λ r. ⌜ (r ≡ true → UpTo (λ i. FeatureAnswered (now (buffer .entry)) (featureRow (now (features .entry)) i)) first (first + count)) ⌝ }
+{
+    let mut k: usize = 0;
+    while k < count {
+        if !feature_ready(buffer.len(), whole_feature(features, first + k)) {
+            return false;
+        }
+        k += 1;
+    }
+    true
+}
+
+fn feature_ready(len: usize, f: FeatureRow) -> bool
+    ensures { λ r. ⌜ (r ≡ true → (f .id < 256) × (f .at + f .len ≤ len) × (f .len ≤ limit)) ⌝ }
+{
+    if 256 <= f.id {
+        return false;
+    }
+    if LIMIT < f.len as usize {
+        return false;
+    }
+    is_inside(len, f.at, f.len)
+}
+
 // ---- lengths
 
 // How many bytes the entries are written as, LIMIT + 1 where they are more.
@@ -388,7 +567,7 @@ fn entries_len(entries: &[u32], features: &[u32], buffer: &[u8]) -> usize
     let mut k: usize = 0;
     while k < n {
         m = min_of(
-            m + entry_len(features, buffer, entry_at(entries, k)),
+            m + entry_len(features, buffer, whole_entry(entries, k)),
             LIMIT + 1,
         );
         k += 1;

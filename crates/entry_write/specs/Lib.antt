@@ -1,3 +1,5 @@
 pub mod Ready
 pub mod ReadyLaws
+pub mod Rows
+pub mod RowsLaws
 pub mod StoreLaws

@@ -1,11 +1,12 @@
--- What is known of a row once every question about it was answered "yes": it can be stored.
+-- What is known of a row, and of a whole table, once every question about it was answered "yes": it can be stored.
 use Prim.Native.Nat.{_≤_}
 use mathlib.Core.Bool.{true}
 use mathlib.Core.Path.{_≡_}
 use Rattle.wire.specs.Bytes.{every}
+use Rattle.wire.specs.OutputLaws.{AllHold}
 use Rattle.handshake.specs.declared.EntryRow.{EntryRow}
-use Rattle.handshake.specs.Value.{shortStrings}
-use Rattle.handshake.specs.Tables.{Lent, ownRows, entryOf, featureNumbers, entryNumbers, entryInside}
+use Rattle.handshake.specs.Value.{shortStrings, entriesAsked}
+use Rattle.handshake.specs.Tables.{Lent, ownRows, entryRows, entryOf, entriesOf, featureNumbers, entryNumbers, tablesWhole, entryInside}
 
 pub record Ready (l : Lent) (r : EntryRow) : Type 0 where
   pub numbers : entryNumbers r ≡ true
@@ -13,3 +14,9 @@ pub record Ready (l : Lent) (r : EntryRow) : Type 0 where
   pub inside : entryInside l r ≡ true
   pub short : shortStrings (entryOf l r) ≡ true
   pub few : r .count ≤ 255
+
+-- of all entries
+pub record EntriesReady (l : Lent) : Type 0 where
+  pub whole : tablesWhole l ≡ true
+  pub inside : every (entryInside l) (entryRows l) ≡ true
+  pub asked : AllHold (entriesAsked (entriesOf l))

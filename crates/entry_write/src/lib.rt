@@ -13,12 +13,14 @@ ghost use Rattle.vlq.specs.Vlq.{vlqBytes};
 ghost use Rattle.vlq.specs.ShortString.{shortStringBytes};
 ghost use Rattle.handshake.specs.Entry.{addressOf};
 ghost use Rattle.handshake.specs.Value.{addressBytes, featureBytes, entryBytes, shortStrings};
-ghost use Rattle.handshake.specs.Tables.{lent, rows, featureRow, entryRow, bytesAt, featureOf, featureNumbers, entryOf, entryNumbers};
+ghost use Rattle.handshake.specs.Tables.{lent, rows, featureRow, entryRow, bytesAt, featureOf, featureNumbers, entryOf, entriesOf, entryNumbers};
 ghost use Rattle.handshake.specs.Writes.{entryAt, rowAsked, entryWritten};
 ghost use Rattle.entry_ask.specs.Asked.{rowWhole};
 ghost use Rattle.entry_ask.specs.LengthLaws.{headBytes};
-ghost use Rattle.entry_write.specs.Ready.{Ready};
+ghost use Rattle.entry_write.specs.Ready.{Ready, EntriesReady};
+ghost use Rattle.entry_write.specs.Rows.{bodySaid, rowsWritten};
 use entry_ask::address_size;
+use entry_ask::ask_entries;
 use entry_ask::ask_place;
 use entry_ask::ask_row;
 use entry_ask::entry_at;
@@ -31,6 +33,8 @@ use vlq_write::vlq_len;
 use vlq_write::write_part;
 use vlq_write::write_vlq;
 use wire::Written;
+
+const MAX_BODY_SIZE: usize = 16_388_608;
 
 // The entry in row k. 16 is asked of this row and its feature rows alone.
 pub fn write_row(
@@ -67,6 +71,61 @@ pub fn write_entry(
         return Written::Refused(16);
     }
     write_row(out, at, entries, features, buffer, k)
+}
+
+// All entries of a table, one after the other: the end of a body that has `before` bytes before them.
+pub fn write_rows(
+    out: &mut [u8],
+    at: usize,
+    before: usize,
+    entries: &[u32],
+    features: &[u32],
+    buffer: &[u8],
+) -> Written
+    ensures { λ r. ⌜ r ≡ rowsWritten (lent (now (entries .entry)) (now (features .entry)) (now (buffer .entry))) before (now (out .entry)) at ⌝ }
+    ensures { λ r. ⌜ now (out .exit) ≡ outputAfter r (now (out .entry)) at (flatMap entryBytes (entriesOf (lent (now (entries .entry)) (now (features .entry)) (now (buffer .entry))))) ⌝ }
+{
+    let body = ask_body(before, ask_entries(entries, features, buffer));
+    let said = ask_place(out.len(), at, body);
+    if let Written::To(_) = said {
+        put_rows(out, at, entries, features, buffer);
+    }
+    said
+}
+
+// Adds the body's question to what is said of its end: To has how many bytes that is.
+fn ask_body(before: usize, said: Written) -> Written
+    ensures { λ r. ⌜ r ≡ bodySaid before said ⌝ }
+{
+    match said {
+        Written::To(n) => {
+            if MAX_BODY_SIZE < n {
+                return Written::Refused(7);
+            }
+            if MAX_BODY_SIZE - n < before {
+                return Written::Refused(7);
+            }
+            Written::To(n)
+        }
+        Written::Refused(m) => Written::Refused(m),
+    }
+}
+
+// Stores all entries of a table, one after the other, and gives the place after them.
+fn put_rows(out: &mut [u8], at: usize, entries: &[u32], features: &[u32], buffer: &[u8]) -> usize
+    requires { ⌜ EntriesReady (lent (now entries) (now features) (now buffer)) ⌝ }
+    requires { ⌜ at + length (flatMap entryBytes (entriesOf (lent (now entries) (now features) (now buffer)))) ≤ length (now out) ⌝ }
+    ensures { λ r. ⌜ Wrote (now (out .entry)) at (flatMap entryBytes (entriesOf (lent (now (entries .entry)) (now (features .entry)) (now (buffer .entry))))) r (now (out .exit)) ⌝ }
+{
+    let n = entries.len() / 12;
+    let mut o = at;
+    let mut k: usize = 0;
+    while k < n {
+        let e = entry_at(entries, k);
+        o = put_entry(out, o, features, buffer, e);
+        k += 1;
+    }
+    o
 }
 
 // Stores the entry of a row and gives the place after it.

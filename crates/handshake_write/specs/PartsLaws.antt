@@ -1,4 +1,5 @@
--- Laws of the parts: a writer that is not refused ends after its bytes, the bytes of a number, and `build` in its pieces.
+-- Laws of the parts: a writer that is not refused ends after its bytes, the bytes of a number, bytes before a value that stands behind them,
+-- and `build` in its pieces.
 use Prim.Native.Nat.{ℕ, _+_, _/_, _%_, _^_, _≤_, _<_}
 use native.Mathlib.Omega.{arith}
 use mathlib.Core.Bool.{Bool, true, false, cond, _&&_}
@@ -6,11 +7,12 @@ use mathlib.Core.List.{List, [], _∷_, _++_, flatMap, append-assoc, append-nil}
 use mathlib.Core.Path.{_≡_, refl, sym, ap, ap₂, _∙_}
 use lib.Dec.{leb}
 use lib.ListN.{length, set, length-append}
-use borrow.Author.Tests.{le-leb, leb-true}
+use borrow.Author.Tests.{le-leb, lt-leb, leb-true}
 use Rattle.wire.specs.Bytes.{bigEndianBytes, every}
 use Rattle.wire.specs.BytesLaws.{and-true, length-bigEndianBytes}
 use Rattle.wire.specs.Output.{put, Question, ask, asked, written, outputAfter}
-use Rattle.wire.specs.OutputLaws.{Wrote, AllHold, written-to, wrote-checked}
+use Rattle.wire.specs.OutputLaws.{Wrote, AllHold, length-put, put-here, written-to, written-accepted, wrote-length, wrote-to, wrote-checked, wrote-refused}
+use Rattle.wire.specs.StandingLaws.{put-standing, put-over, after-put, after-refused}
 use Rattle.wire.specs.declared.Written.{Written}
 use Rattle.wire.specs.declared.Written.the-variants.{To, Refused}
 use Rattle.utf8.specs.Utf8.{utf8}
@@ -40,6 +42,11 @@ longer-asked v n (q ∷ qs) = go (q .holds) (longer-asked v n qs)
         → longer v (cond t (asked qs (To n)) (Refused (q .number))) ≡ cond t (asked qs (To (v + n))) (Refused (q .number))
     go true e = e
     go false e = refl
+
+-- without room for v bytes, it does not matter how many follow
+pub placed-full : (len at v n : ℕ) → len < at + v → placed len at (To v) ≡ placed len at (To (v + n))
+unfolding placed
+placed-full len at v n h = rw (lt-leb (at + v) len h, lt-leb (at + (v + n)) len (omega arith))
 
 -- a writer whose questions hold and that has room ends after its bytes
 pub wrote-end : (before after : List Question) (out : List ℕ) (at : ℕ) (bs : List ℕ) {r : Written} {last : List ℕ} {e : ℕ}
@@ -77,6 +84,47 @@ wrote-four out at a b c d =
     let e : at + 1 + 1 ≡ at + 2 = omega arith in
     let f : at + 2 + 1 ≡ at + 3 = omega arith in
     record { end = refl; bytes = rw (e, f) }
+
+-- ---- bytes before a value that stands behind them
+
+-- bytes b from the place m on, and then a before them from the place at on
+module _ (before after : List Question) (out : List ℕ) (at m : ℕ) (a b : List ℕ) (p : m ≡ at + length a) where
+  end-behind : m + length b ≡ at + length (a ++ b)
+  end-behind = omega (arith, p, length-append a b)
+
+  written-behind : m ≤ length out → written before after out m b ≡ written before after out at (a ++ b)
+  unfolding written
+  written-behind h = rw (end-behind, le-leb m (length out) h, le-leb at (length out) (omega (arith, p)))
+
+  put-behind : m + length b ≤ length out → put (put out m b) at a ≡ put out at (a ++ b)
+  put-behind h =
+      let mid : List ℕ = put out m b in
+      sym (put-standing mid at a m (length b) p (omega (arith, length-put out m b)))
+      ∙ ap (λ (x : List ℕ). put mid at (a ++ x)) (put-here out m b h)
+      ∙ put-over out at a b m p h
+
+  -- the writer of b was called, said r and left mid
+  module _ {r : Written} {mid : List ℕ} (h : m ≤ length out) (says : r ≡ written before after out m b) (left : mid ≡ outputAfter r out m b) where
+    pub behind-stored : {e : ℕ} {x : Written} {last : List ℕ} → r ≡ To e → x ≡ written [] [] mid at a → last ≡ outputAfter x mid at a
+        → (r ≡ written before after out at (a ++ b)) × (last ≡ outputAfter r out at (a ++ b))
+    behind-stored {e} {x} {last} q say leave =
+        let w = wrote-to before after out m b says left e q in
+        let room = written-accepted before after out m b e (sym says ∙ q) .room in
+        let front = wrote-checked [] [] mid at a say leave tt tt (omega (arith, p, wrote-length w)) in (
+          says ∙ written-behind h,
+          after-put out at (a ++ b) q (front .bytes ∙ ap (λ (o : List ℕ). put o at a) (w .bytes) ∙ put-behind room),
+        )
+
+    pub behind-refused : {e : ℕ} → r ≡ Refused e → (r ≡ written before after out at (a ++ b)) × (mid ≡ outputAfter r out at (a ++ b))
+    behind-refused {e} q =
+        (says ∙ written-behind h, wrote-refused before after out m b says left e q ∙ after-refused at (a ++ b) q)
+
+-- a writer that has no room refuses
+pub kept-full : (before after : List Question) (out : List ℕ) (at : ℕ) (bs : List ℕ) (r : Written) → length out < at + length bs
+    → r ≡ written before after out at bs → out ≡ outputAfter r out at bs
+unfolding outputAfter
+kept-full before after out at bs (To e) h says = absurd (omega (arith, written-accepted before after out at bs e (sym says) .room))
+kept-full before after out at bs (Refused m) h says = refl
 
 -- ---- a timestamp with an entry
 

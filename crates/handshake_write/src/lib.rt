@@ -1,22 +1,23 @@
 // Handshakes, written into a lent output (transport/handshake.rs): a timestamp with the entry in a row of a table, and `build`.
 // A writer asks all its questions first and stores only once each is answered "yes".
-ghost use mathlib.Core.Bool.{true, cond};
+ghost use mathlib.Core.Bool.{cond};
 ghost use mathlib.Core.Path.{_≡_};
 ghost use mathlib.Core.List.{_∷_, _++_};
-ghost use Prim.Native.Nat.{_+_, _≤_};
+ghost use Prim.Native.Nat.{_+_, _≤_, _<_};
+ghost use lib.Dec.{leb};
 ghost use lib.ListN.{length};
 ghost use Rattle.wire.specs.Bytes.{bigEndianBytes};
 ghost use Rattle.wire.specs.Output.{outputAfter};
-ghost use Rattle.wire.specs.OutputLaws.{Wrote, AllHold};
+ghost use Rattle.wire.specs.OutputLaws.{Wrote};
 ghost use Rattle.vlq.specs.Vlq.{vlqBytes};
 ghost use Rattle.handshake.specs.Value.{addressBytes, versionBytes, handshakeBytes};
 ghost use Rattle.handshake.specs.Tables.{lent};
-ghost use Rattle.handshake.specs.Writes.{rowAsked, handshakeAt, handshakeWritten, nipopow, built, builtWritten};
-ghost use Rattle.entry_ask.specs.Asked.{rowWhole, placed};
+ghost use Rattle.handshake.specs.Writes.{handshakeAt, handshakeWritten, nipopow, built, builtWritten};
+ghost use Rattle.entry_ask.specs.Asked.{placed};
 ghost use Rattle.handshake_write.specs.Parts.{longer, endOf, configOf, builtSaid, BuildReady, headBytes, modeBody, sessionBody};
 use entry_ask::ask_entry;
 use entry_ask::ask_place;
-use entry_write::write_row;
+use entry_write::write_entry;
 use types::Address;
 use types::Network;
 use types::ProxyMode;
@@ -48,7 +49,7 @@ pub struct Config {
     pub session: i64,
 }
 
-// A timestamp with the entry in row k.
+// A timestamp with the entry in row k. The entry is written first, behind the timestamp's place: its writer asks every question.
 pub fn write_handshake(
     out: &mut [u8],
     at: usize,
@@ -61,10 +62,13 @@ pub fn write_handshake(
     ensures { λ r. ⌜ r ≡ handshakeWritten timestamp (lent (now (entries .entry)) (now (features .entry)) (now (buffer .entry))) k (now (out .entry)) at ⌝ }
     ensures { λ r. ⌜ now (out .exit) ≡ outputAfter r (now (out .entry)) at (handshakeBytes (handshakeAt timestamp (lent (now (entries .entry)) (now (features .entry)) (now (buffer .entry))) k)) ⌝ }
 {
-    let said = ask_entry(entries, features, buffer, k);
-    let answer = ask_after(out.len(), at, vlq_len(timestamp), said);
+    let v = vlq_len(timestamp);
+    if !has_room(out.len(), at, v) {
+        return ask_after(out.len(), at, v, ask_entry(entries, features, buffer, k));
+    }
+    let answer = write_entry(out, at + v, entries, features, buffer, k);
     if let Written::To(_) = answer {
-        put_handshake(out, at, timestamp, entries, features, buffer, k);
+        write_vlq(out, at, timestamp);
     }
     answer
 }
@@ -83,56 +87,24 @@ pub fn build(out: &mut [u8], at: usize, config: Config, agent: &[u8], name: &[u8
 
 // ---- a timestamp with an entry
 
-// What is said of v bytes and then a value, of which `said` was said, in an output of len bytes.
+// Has an output of len bytes n bytes from the place on?
+fn has_room(len: usize, at: usize, n: usize) -> bool
+    ensures { λ r. ⌜ r ≡ leb (at + n) len ⌝ }
+{
+    if len < at {
+        return false;
+    }
+    n <= len - at
+}
+
+// What is said of v bytes, for which there is no room, and then a value, of which `said` was said.
 fn ask_after(len: usize, at: usize, v: usize, said: Written) -> Written
+    requires { ⌜ len < at + v ⌝ }
     ensures { λ r. ⌜ r ≡ placed len at (longer v said) ⌝ }
 {
     match said {
-        Written::To(n) => ask_both(len, at, v, n),
+        Written::To(_) => ask_place(len, at, Written::To(v)),
         Written::Refused(m) => ask_place(len, at, Written::Refused(m)),
-    }
-}
-
-fn ask_both(len: usize, at: usize, v: usize, n: usize) -> Written
-    ensures { λ r. ⌜ r ≡ placed len at (Written.To (v + n)) ⌝ }
-{
-    if len < at {
-        return Written::Refused(12);
-    }
-    if len - at < v {
-        return Written::Refused(14);
-    }
-    if len - at - v < n {
-        return Written::Refused(14);
-    }
-    Written::To(at + v + n)
-}
-
-fn put_handshake(
-    out: &mut [u8],
-    at: usize,
-    timestamp: u64,
-    entries: &[u32],
-    features: &[u32],
-    buffer: &[u8],
-    k: usize,
-) -> usize
-    requires { ⌜ rowWhole (lent (now entries) (now features) (now buffer)) k ≡ true ⌝ }
-    requires { ⌜ AllHold (rowAsked (lent (now entries) (now features) (now buffer)) k) ⌝ }
-    requires { ⌜ at + length (handshakeBytes (handshakeAt timestamp (lent (now entries) (now features) (now buffer)) k)) ≤ length (now out) ⌝ }
-    ensures { λ r. ⌜ Wrote (now (out .entry)) at (handshakeBytes (handshakeAt timestamp (lent (now (entries .entry)) (now (features .entry)) (now (buffer .entry))) k)) r (now (out .exit)) ⌝ }
-{
-    let a = end_of(write_vlq(out, at, timestamp));
-    end_of(write_row(out, a, entries, features, buffer, k))
-}
-
-// Where an accepted writer ended.
-fn end_of(w: Written) -> usize
-    ensures { λ r. ⌜ r ≡ endOf w ⌝ }
-{
-    match w {
-        Written::To(end) => end,
-        Written::Refused(_) => 0,
     }
 }
 
@@ -206,6 +178,16 @@ fn session_len(config: Config) -> usize
 }
 
 // ---- build: storing
+
+// Where an accepted writer ended.
+fn end_of(w: Written) -> usize
+    ensures { λ r. ⌜ r ≡ endOf w ⌝ }
+{
+    match w {
+        Written::To(end) => end,
+        Written::Refused(_) => 0,
+    }
+}
 
 fn put_build(out: &mut [u8], at: usize, config: Config, agent: &[u8], name: &[u8]) -> usize
     requires { ⌜ BuildReady (now agent) (now name) ⌝ }

@@ -4,7 +4,7 @@ use native.Mathlib.Omega.{arith}
 use mathlib.Core.List.{List, []}
 use mathlib.Core.Path.{_≡_}
 use lib.Dec.{leb}
-use lib.ListN.{length, getD, take, drop}
+use lib.ListN.{length, getD}
 use borrow.Author.Tests.{leb-true}
 use Rattle.wire.specs.declared.Written.{Written}
 use Rattle.wire.specs.Output.{written, outputAfter}
@@ -29,9 +29,9 @@ module _ {out₀ : List ℕ} {at : ℕ} (ids buffer : List ℕ) {out : List ℕ}
   id-room = omega (arith, putting-room inv more, long)
 
   -- a turn stores one id
-  pub id-stored : {r : Written} {last : List ℕ} (k : ℕ) → k ≡ 32 → r ≡ written [] [] out o (take k (drop (getD ids i 0) buffer))
-      → last ≡ outputAfter r out o (take k (drop (getD ids i 0) buffer)) → PuttingIds out₀ at ids buffer last (o + 32) (i + 1)
-  id-stored {r} {last} k z says after =
-      let id : List ℕ = bytesAt buffer (getD ids i 0) 32 in
-      let w : Wrote out o id (o + length id) last = wrote-checked [] [] out o id (rw z at says) (rw z at after) tt tt (omega (arith, id-room, long)) in
+  pub id-stored : {r : Written} {id last : List ℕ} → id ≡ bytesAt buffer (getD ids i 0) 32 → r ≡ written [] [] out o id → last ≡ outputAfter r out o id
+      → PuttingIds out₀ at ids buffer last (o + 32) (i + 1)
+  id-stored {r} {id} {last} e says after =
+      let there : List ℕ = bytesAt buffer (getD ids i 0) 32 in
+      let w : Wrote out o there (o + length there) last = wrote-checked [] [] out o there (rw e at says) (rw e at after) tt tt (omega (arith, id-room, long)) in
       putting-turn inv more (rw long at w)

@@ -10,6 +10,7 @@ ghost use Rattle.wire.specs.OutputLaws.{Wrote};
 ghost use Rattle.vlq.specs.Vlq.{limit, vlqBytes};
 ghost use Rattle.frame.specs.Frame.{frameBytes};
 ghost use Rattle.frame_write.specs.Asked.{frameLength};
+ghost use Rattle.handshake.specs.Tables.{bytesAt};
 ghost use Rattle.messages.specs.Value.{unknownCode, idsBytes};
 ghost use Rattle.messages.specs.Writes.{idsOf, writeGetPeers, writeModifierRequest, writeInv, writeSyncInfo, writeUnknown, valueOf, messageBytes, messageWritten};
 ghost use Rattle.messages_write.specs.Asked.{unknownWrittenFor, idsInside, idsWrittenFor};
@@ -221,9 +222,22 @@ fn put_rows(out: &mut [u8], at: usize, ids: &[u32], buffer: &[u8]) -> usize
     let mut i = 0;
     while i < ids.len() {
         let from = ids[i] as usize;
-        vlq_write::write_part(out, o, &buffer[from..from + ID_SIZE]);
+        let id = id_at(buffer, from);
+        vlq_write::write_part(out, o, &id);
         o += ID_SIZE;
         i += 1;
     }
     o
+}
+
+// The id at a place. By value, so that the compiler copies it at once.
+fn id_at(buffer: &[u8], at: usize) -> [u8; 32]
+    requires { ⌜ at + 32 ≤ length (now buffer) ⌝ }
+    ensures { λ r. ⌜ r ≡ bytesAt (now (buffer .entry)) at 32 ⌝ }
+{
+    let mut id = [0u8; 32];
+    for i in 0..32 {
+        id[i] = buffer[at + i];
+    }
+    id
 }

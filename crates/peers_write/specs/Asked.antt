@@ -1,20 +1,16 @@
 -- What the writer of Peers says of an output of len bytes, by sizes, once it is known what is said of the entries.
 use Prim.Native.Nat.{ℕ, _+_}
-use mathlib.Core.Bool.{true}
+use mathlib.Core.Bool.{Bool, _&&_}
 use mathlib.Core.List.{List, [], _∷_}
-use mathlib.Core.Path.{_≡_}
 use lib.Dec.{leb}
 use lib.ListN.{length}
-use Rattle.wire.specs.Bytes.{every}
-use Rattle.wire.specs.Output.{ask, asked}
-use Rattle.wire.specs.OutputLaws.{AllHold}
+use Rattle.wire.specs.Output.{ask}
 use Rattle.wire.specs.declared.Written.{Written}
 use Rattle.wire.specs.declared.Written.the-variants.{To, Refused}
 use Rattle.vlq.specs.Vlq.{limit, vlqBytes}
 use Rattle.vlq_write.specs.Asked.{writtenFor}
 use Rattle.frame_write.specs.Asked.{frameLength}
-use Rattle.handshake.specs.Value.{entriesAsked}
-use Rattle.handshake.specs.Tables.{Lent, entryRows, entriesOf, tablesWhole, entryInside}
+use Rattle.handshake.specs.Tables.{Lent, entriesOf}
 use Rattle.entry_ask.specs.Asked.{placed}
 use Rattle.messages.specs.Value.{peersValue, bodyBytes}
 
@@ -34,8 +30,6 @@ unfoldable pub peersSaid : ℕ → ℕ → ℕ → ℕ → Written → Written
 peersSaid cap count len at (To n) = countSaid cap count len at n
 peersSaid cap count len at (Refused m) = placed len at (Refused m)
 
--- every question about the entries of a table is answered "yes"
-pub record EntriesReady (l : Lent) : Type 0 where
-  pub whole : tablesWhole l ≡ true
-  pub inside : every (entryInside l) (entryRows l) ≡ true
-  pub asked : AllHold (entriesAsked (entriesOf l))
+-- the count is within the cap, and there is room for all that a frame has before its entries
+unfoldable pub peersStart : ℕ → ℕ → ℕ → ℕ → Bool
+peersStart cap count len at = leb (at + (13 + length (vlqBytes count))) len && leb count cap

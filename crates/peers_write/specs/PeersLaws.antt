@@ -1,36 +1,36 @@
 -- Laws of the writer of Peers: what is said by sizes is what `messageWritten` says, and what is known once it accepted.
-use Prim.Native.Nat.{ℕ, _+_, _/_, _≤_, _<_, min}
+use Prim.Native.Nat.{ℕ, _+_, _-_, _/_, _≤_, _<_, min}
 use native.Mathlib.Omega.{arith}
-use mathlib.Core.Bool.{Bool, true, false}
+use mathlib.Core.Bool.{Bool, true, false, true≢false}
 use mathlib.Core.List.{List, [], _∷_, _++_, flatMap}
 use mathlib.Core.Logic.{⊎-elim}
-use mathlib.Core.Path.{_≡_, refl, ap, _∙_}
+use mathlib.Core.Path.{_≡_, refl, sym, ap, _∙_}
 use lib.Dec.{leb}
-use lib.ListN.{length, length-append, length-map}
-use borrow.Author.Tests.{lt-leb, leb-true}
+use lib.ListN.{length, take, drop, length-append, length-map}
+use borrow.Author.Tests.{le-leb, lt-leb, leb-true}
 use Rattle.wire.specs.Bytes.{every}
+use Rattle.wire.specs.BytesLaws.{and-true}
 use Rattle.wire.specs.Numbers.{lt-or-ge}
 use Rattle.wire.specs.declared.Written.{Written}
 use Rattle.wire.specs.declared.Written.the-variants.{To, Refused}
-use Rattle.wire.specs.Output.{ask, asked, written, outputAfter}
-use Rattle.wire.specs.OutputLaws.{Wrote, wrote-to, wrote-checked, written-accepted}
+use Rattle.wire.specs.Output.{put, ask, asked, written, outputAfter}
+use Rattle.wire.specs.OutputLaws.{Wrote, Accepted, length-put, put-here, wrote-checked, written-accepted}
+use Rattle.wire.specs.StandingLaws.{put-standing, put-over, after-put}
 use Rattle.vlq.specs.Vlq.{limit, vlqBytes}
 use Rattle.vlq.specs.VlqLaws.{vlq-pos}
-use Rattle.vlq_write.specs.CheckedLaws.{not-refused}
 use Rattle.types.specs.declared.Network.{Network}
-use Rattle.frame_write.specs.Asked.{frameLength}
-use Rattle.frame_write.specs.FrameWriteLaws.{length-frame}
+use Rattle.frame.specs.Frame.{frameBytes}
+use Rattle.frame_write.specs.Asked.{frameLength, frameWrittenFor}
+use Rattle.frame_write.specs.FrameWriteLaws.{length-frame, frameLength-body, closed}
 use Rattle.handshake.specs.Value.{entryBytes, shortStrings, utf8Strings, fewFeatures, lengthsWithin, entriesAsked}
 use Rattle.handshake.specs.Tables.{Lent, entryRow, entryRows, entryOf, entriesOf, tablesWhole, entryInside}
-use Rattle.handshake.specs.Writes.{entryAt, rowAsked}
 use Rattle.handshake.specs.RowsLaws.{length-rows}
-use Rattle.entry_ask.specs.Asked.{rowWhole, entriesSaid, placed}
-use Rattle.entry_ask.specs.AskedLaws.{whole-row}
-use Rattle.entry_ask.specs.RowLaws.{each-row-asked}
+use Rattle.entry_ask.specs.Asked.{entriesSaid, placed}
+use Rattle.entry_write.specs.Rows.{rowsAsked, rowsWritten}
 use Rattle.messages.specs.Value as Values
 use Rattle.messages.specs.Value.{codeOf, bodyBytes, payloadsWithin, countWithin, codeFree, messageAsked}
 use Rattle.messages.specs.Writes.{writePeers, valueOf, messageWhole, messageInside, messageWritten}
-use Rattle.peers_write.specs.Asked.{peersBytes, countSaid, peersSaid, EntriesReady}
+use Rattle.peers_write.specs.Asked.{peersBytes, countSaid, peersSaid, peersStart}
 
 -- ---- lengths
 
@@ -97,35 +97,105 @@ said-peers network cap l out at =
     (every shortStrings (entriesOf l)) (every utf8Strings (entriesOf l)) (every fewFeatures (entriesOf l)) (every lengthsWithin (entriesOf l))
     ∙ rw (length-frame network 2 (peersBytes l), length-peers l, length-entries l)
 
--- ---- a writer that accepted
+-- ---- where the frame starts
 
-pub asked-peers : (network : Network) (cap : ℕ) (l : Lent) (out : List ℕ) (at : ℕ) {e : ℕ} → messageWritten network cap (writePeers l) out at ≡ To e
-    → EntriesReady l × ((length (peersBytes l) ≤ limit) × (at + frameLength (length (peersBytes l)) ≤ length out))
-unfolding messageWritten messageWhole messageInside messageAsked valueOf codeOf Values.entriesOf entriesAsked
-asked-peers network cap l out at {e} p =
-    let h = written-accepted _ _ out at _ e p in
-    let q = h .rest .1 in (
-      record { whole = h .first .0; inside = h .rest .0; asked = (q .0, (q .1 .0, (q .1 .1 .0, (q .1 .1 .1 .0, tt)))) },
-      (leb-true (length (peersBytes l)) limit (q .1 .1 .1 .1 .1 .1 .0), omega (arith, h .room, length-frame network 2 (peersBytes l))),
+pub start-room : (cap count len at : ℕ) → peersStart cap count len at ≡ true → at + (13 + length (vlqBytes count)) ≤ len
+unfolding peersStart
+start-room cap count len at start = leb-true (at + (13 + length (vlqBytes count))) len (and-true (leb (at + (13 + length (vlqBytes count))) len) (leb count cap) start .0)
+
+-- it does: the writer says what is said of the entries where they stand
+pub rows-peers : (network : Network) (cap : ℕ) (l : Lent) (out : List ℕ) (at : ℕ) → peersStart cap (length (l .entries) / 12) (length out) at ≡ true
+    → let v = length (vlqBytes (length (l .entries) / 12)) in rowsWritten l v out (at + 13 + v) ≡ messageWritten network cap (writePeers l) out at
+unfolding peersStart rowsWritten entriesAsked messageWritten written asked messageWhole messageInside messageAsked valueOf Values.entriesOf payloadsWithin countWithin codeFree codeOf
+rows-peers network cap l out at start =
+    let count = length (l .entries) / 12 in
+    let v = length (vlqBytes count) in
+    let n = length (flatMap entryBytes (entriesOf l)) in
+    let h = and-true (leb (at + (13 + v)) (length out)) (leb count cap) start in
+    let room = leb-true (at + (13 + v)) (length out) (h .0) in
+    let end : at + (13 + (v + n)) ≡ at + 13 + v + n = omega arith in
+    rw (
+      le-leb (at + 13 + v) (length out) (omega arith),
+      le-leb at (length out) (omega arith),
+      length-frame network 2 (peersBytes l),
+      length-peers l,
+      length-entries l,
+      h .1,
+      frameLength-body (v + n) (omega (arith, vlq-pos count)),
+      end,
     )
+
+-- it does not: the writer refuses, and the output is as it was
+pub not-started : (network : Network) (cap : ℕ) (l : Lent) (out : List ℕ) (at : ℕ) (bs : List ℕ) (r : Written) → r ≡ messageWritten network cap (writePeers l) out at
+    → peersStart cap (length (l .entries) / 12) (length out) at ≡ false → out ≡ outputAfter r out at bs
+unfolding outputAfter peersStart messageWritten messageWhole messageInside messageAsked valueOf codeOf Values.entriesOf entriesAsked countWithin
+not-started network cap l out at bs (To e) says start =
+    let count = length (l .entries) / 12 in
+    let v = length (vlqBytes count) in
+    let n = length (flatMap entryBytes (entriesOf l)) in
+    let h = written-accepted _ _ out at _ e (sym says) in
+    let within : leb count cap ≡ true = rw (length-entries l) at (h .rest .1 .1 .1 .1 .1 .1 .0) in
+    let long = frameLength-body (v + n) (omega (arith, vlq-pos count)) in
+    let room : at + (13 + v) ≤ length out = omega (arith, h .room, length-frame network 2 (peersBytes l), ap frameLength (length-peers l), long) in
+    let z : true ≡ false = rw (le-leb (at + (13 + v)) (length out) room, within) at start in
+    absurd (true≢false z)
+not-started network cap l out at bs (Refused m) says start = refl
 
 -- ---- what was stored
 
-module _ (l : Lent) (yes : EntriesReady l) (k : ℕ) (h : k < length (l .entries) / 12) (out : List ℕ) (at : ℕ) {r : Written}
-    (says : r ≡ written (ask 16 (rowWhole l k) ∷ []) (rowAsked l k) out at (entryBytes (entryAt l k)))
+-- bytes b, and then a before them
+put-behind : (out : List ℕ) (at : ℕ) (a b : List ℕ) → at + length a + length b ≤ length out → put (put out (at + length a) b) at a ≡ put out at (a ++ b)
+put-behind out at a b h =
+    let m = at + length a in
+    let mid : List ℕ = put out m b in
+    let l : length mid ≡ length out = length-put out m b in
+    sym (put-standing mid at a m (length b) refl (omega arith))
+    ∙ ap (λ (x : List ℕ). put mid at (a ++ x)) (put-here out m b h)
+    ∙ put-over out at a b m refl h
+
+-- the entries were stored where they stand in the frame
+module _ (network : Network) (l : Lent) (out : List ℕ) (at : ℕ) {r : Written} {e : ℕ} {one : List ℕ}
+    (says : r ≡ rowsWritten l (length (vlqBytes (length (l .entries) / 12))) out (at + 13 + length (vlqBytes (length (l .entries) / 12))))
+    (left : one ≡ outputAfter r out (at + 13 + length (vlqBytes (length (l .entries) / 12))) (flatMap entryBytes (entriesOf l))) (p : r ≡ To e)
   where
-    pub row-stored : {e : ℕ} {last : List ℕ} → last ≡ outputAfter r out at (entryBytes (entryAt l k)) → r ≡ To e → Wrote out at (entryBytes (entryAt l k)) e last
-    row-stored {e} left p = wrote-to (ask 16 (rowWhole l k) ∷ []) (rowAsked l k) out at (entryBytes (entryAt l k)) says left e p
+    abbrev count : List ℕ
+    count = vlqBytes (length (l .entries) / 12)
 
-    -- a row that has room is not refused
-    pub row-accepted : {P : Type 0} {m : ℕ} → at + length (entryBytes (entryAt l k)) ≤ length out → r ≡ Refused m → P
-    row-accepted room p =
-        not-refused (ask 16 (rowWhole l k) ∷ []) (rowAsked l k) out at (entryBytes (entryAt l k)) says (whole-row l k (yes .whole), tt)
-        (each-row-asked l k h (yes .inside) (yes .asked)) room p
+    abbrev rows : List ℕ
+    rows = flatMap entryBytes (entriesOf l)
 
--- the count was stored
-pub count-stored : (l : Lent) (out : List ℕ) (at : ℕ) {r : Written} {mid : List ℕ} → at + length (peersBytes l) ≤ length out
-    → r ≡ written [] [] out at (vlqBytes (length (l .entries) / 12)) → mid ≡ outputAfter r out at (vlqBytes (length (l .entries) / 12))
-    → Wrote out at (vlqBytes (length (l .entries) / 12)) (at + length (vlqBytes (length (l .entries) / 12))) mid
-count-stored l out at room says left =
-    wrote-checked [] [] out at (vlqBytes (length (l .entries) / 12)) says left tt tt (omega (arith, length-peers l))
+    yes : Accepted (ask 16 (tablesWhole l) ∷ []) (rowsAsked l (length count)) out (at + 13 + length count) rows e
+    unfolding rowsWritten
+    yes = written-accepted _ _ out (at + 13 + length count) rows e (sym says ∙ p)
+
+    pub body-end : e ≡ at + 13 + length (peersBytes l)
+    body-end = omega (arith, yes .end, length-peers l)
+
+    small : length (peersBytes l) ≤ limit
+    unfolding entriesAsked
+    small = omega (arith, leb-true (length count + length rows) limit (yes .rest .1 .1 .1 .1 .1 .0), length-peers l)
+
+    frame-room : at + frameLength (length (peersBytes l)) ≤ length out
+    frame-room = omega (arith, yes .room, length-peers l, frameLength-body (length (peersBytes l)) (omega (arith, length-peers l, vlq-pos (length (l .entries) / 12))))
+
+    -- then the count before them
+    module _ {s : Written} {two : List ℕ} (says2 : s ≡ written [] [] one (at + 13) count) (left2 : two ≡ outputAfter s one (at + 13) count) where
+      body-stored : Wrote out (at + 13) (peersBytes l) (at + 13 + length (peersBytes l)) two
+      unfolding outputAfter
+      body-stored =
+          let q : one ≡ put out (at + 13 + length count) rows = rw p at left in
+          let long : length one ≡ length out = ap length q ∙ length-put out (at + 13 + length count) rows in
+          let w = wrote-checked [] [] one (at + 13) count says2 left2 tt tt (omega (arith, yes .room)) in
+          record {
+            end = refl;
+            bytes = w .bytes ∙ ap (λ (o : List ℕ). put o (at + 13) count) q ∙ put-behind out (at + 13) count rows (yes .room) ∙ ap (put out (at + 13)) (sym (peers-parts l));
+          }
+
+      -- and then the frame was closed around both
+      pub frame-stored : {t : Written} {last : List ℕ} → t ≡ frameWrittenFor (length two) at (e - (at + 13))
+          → last ≡ outputAfter t two at (frameBytes network 2 (take (e - (at + 13)) (drop (at + 13) two)))
+          → last ≡ outputAfter (To e) out at (frameBytes network 2 (peersBytes l))
+      frame-stored says3 left3 =
+          let z : e - (at + 13) ≡ length (peersBytes l) = omega (arith, body-end) in
+          after-put out at (frameBytes network 2 (peersBytes l)) refl
+          (closed network 2 out at (peersBytes l) frame-room body-stored small (rw z at says3) (rw z at left3))

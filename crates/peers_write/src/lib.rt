@@ -1,19 +1,15 @@
 // Peers, written as a whole frame into a lent output from a place (protocol/messages.rs, build_peers_body).
 // The writer asks its questions first and stores only once all are answered "yes".
-ghost use mathlib.Core.List.{flatMap};
 ghost use mathlib.Core.Path.{_≡_};
-ghost use Prim.Native.Nat.{_+_, _/_, _≤_, _<_};
+ghost use Prim.Native.Nat.{_+_, _/_, _≤_};
 ghost use lib.ListN.{length};
-ghost use Rattle.wire.specs.Output.{put, outputAfter};
-ghost use Rattle.wire.specs.OutputLaws.{Wrote};
-ghost use Rattle.vlq.specs.Vlq.{limit};
+ghost use Rattle.wire.specs.Output.{outputAfter};
+ghost use Rattle.vlq.specs.Vlq.{vlqBytes};
 ghost use Rattle.frame.specs.Frame.{frameBytes};
-ghost use Rattle.frame_write.specs.Asked.{frameLength};
-ghost use Rattle.handshake.specs.Value.{entryBytes};
-ghost use Rattle.handshake.specs.Tables.{lent, entriesOf};
-ghost use Rattle.handshake.specs.Writes.{entryAt};
+ghost use Rattle.handshake.specs.Tables.{lent};
+ghost use Rattle.entry_write.specs.Rows.{rowsWritten};
 ghost use Rattle.messages.specs.Writes.{writePeers, valueOf, messageBytes, messageWritten};
-ghost use Rattle.peers_write.specs.Asked.{EntriesReady, peersBytes, countSaid, peersSaid};
+ghost use Rattle.peers_write.specs.Asked.{peersBytes, countSaid, peersSaid, peersStart};
 use types::Network;
 use wire::Written;
 
@@ -37,10 +33,48 @@ pub fn write_peers(
     ensures { λ r. ⌜ r ≡ messageWritten network cap (writePeers (lent (now (entries .entry)) (now (features .entry)) (now (buffer .entry)))) (now (out .entry)) at ⌝ }
     ensures { λ r. ⌜ now (out .exit) ≡ outputAfter r (now (out .entry)) at (messageBytes network (valueOf (writePeers (lent (now (entries .entry)) (now (features .entry)) (now (buffer .entry)))))) ⌝ }
 {
+    let count = entries.len() / 12;
+    if starts(out.len(), at, cap, count) {
+        return write_frame(out, at, network, entries, features, buffer);
+    }
+    // The frame has no start, so one of these is answered "no".
     let said = entry_ask::ask_entries(entries, features, buffer);
-    let answer = ask_peers(out.len(), at, cap, entries.len() / 12, said);
-    if let Written::To(_) = answer {
-        put_peers(out, at, network, entries, features, buffer);
+    ask_peers(out.len(), at, cap, count, said)
+}
+
+// Is the count within the cap, and has the output room for all that a frame has before its entries?
+fn starts(len: usize, at: usize, cap: usize, count: usize) -> bool
+    ensures { λ r. ⌜ r ≡ peersStart cap count len at ⌝ }
+{
+    if len < at {
+        return false;
+    }
+    if len - at < BODY_START + vlq_write::vlq_len(count as u64) {
+        return false;
+    }
+    count <= cap
+}
+
+// Writes the entries where they stand in the frame, and once they are accepted all that is before them.
+fn write_frame(
+    out: &mut [u8],
+    at: usize,
+    network: Network,
+    entries: &[u32],
+    features: &[u32],
+    buffer: &[u8],
+) -> Written
+    requires { ⌜ at + (13 + length (vlqBytes (length (now entries) / 12))) ≤ length (now out) ⌝ }
+    ensures { λ r. ⌜ r ≡ rowsWritten (lent (now (entries .entry)) (now (features .entry)) (now (buffer .entry))) (length (vlqBytes (length (now (entries .entry)) / 12))) (now (out .entry)) (at + 13 + length (vlqBytes (length (now (entries .entry)) / 12))) ⌝ }
+    ensures { λ r. ⌜ now (out .exit) ≡ outputAfter r (now (out .entry)) at (frameBytes network 2 (peersBytes (lent (now (entries .entry)) (now (features .entry)) (now (buffer .entry))))) ⌝ }
+{
+    let count = (entries.len() / 12) as u64;
+    let before = vlq_write::vlq_len(count);
+    let start = at + BODY_START;
+    let answer = entry_write::write_rows(out, start + before, before, entries, features, buffer);
+    if let Written::To(end) = answer {
+        vlq_write::write_vlq(out, start, count);
+        frame_write::close_frame(out, at, network, PEERS, end - start);
     }
     answer
 }
@@ -69,75 +103,4 @@ fn ask_count(len: usize, at: usize, cap: usize, count: usize, n: usize) -> Writt
         return Written::Refused(7);
     }
     frame_write::ask_frame(len, at, vlq_write::vlq_len(count as u64) + n)
-}
-
-// Stores the frame.
-fn put_peers(
-    out: &mut [u8],
-    at: usize,
-    network: Network,
-    entries: &[u32],
-    features: &[u32],
-    buffer: &[u8],
-)
-    requires { ⌜ EntriesReady (lent (now entries) (now features) (now buffer)) ⌝ }
-    requires { ⌜ length (peersBytes (lent (now entries) (now features) (now buffer))) ≤ limit ⌝ }
-    requires { ⌜ at + frameLength (length (peersBytes (lent (now entries) (now features) (now buffer)))) ≤ length (now out) ⌝ }
-    ensures { λ r. ⌜ now (out .exit) ≡ put (now (out .entry)) at (frameBytes network 2 (peersBytes (lent (now (entries .entry)) (now (features .entry)) (now (buffer .entry))))) ⌝ }
-{
-    let start = at + BODY_START;
-    let end = put_body(out, start, entries, features, buffer);
-    frame_write::close_frame(out, at, network, PEERS, end - start);
-}
-
-// Stores the count and the entries, and gives the place after them.
-fn put_body(out: &mut [u8], at: usize, entries: &[u32], features: &[u32], buffer: &[u8]) -> usize
-    requires { ⌜ EntriesReady (lent (now entries) (now features) (now buffer)) ⌝ }
-    requires { ⌜ at + length (peersBytes (lent (now entries) (now features) (now buffer))) ≤ length (now out) ⌝ }
-    ensures { λ r. ⌜ Wrote (now (out .entry)) at (peersBytes (lent (now (entries .entry)) (now (features .entry)) (now (buffer .entry)))) r (now (out .exit)) ⌝ }
-{
-    let count = (entries.len() / 12) as u64;
-    vlq_write::write_vlq(out, at, count);
-    put_rows(
-        out,
-        at + vlq_write::vlq_len(count),
-        entries,
-        features,
-        buffer,
-    )
-}
-
-// Stores the entries, one after the other, and gives the place after them.
-fn put_rows(out: &mut [u8], at: usize, entries: &[u32], features: &[u32], buffer: &[u8]) -> usize
-    requires { ⌜ EntriesReady (lent (now entries) (now features) (now buffer)) ⌝ }
-    requires { ⌜ at + length (flatMap entryBytes (entriesOf (lent (now entries) (now features) (now buffer)))) ≤ length (now out) ⌝ }
-    ensures { λ r. ⌜ Wrote (now (out .entry)) at (flatMap entryBytes (entriesOf (lent (now (entries .entry)) (now (features .entry)) (now (buffer .entry))))) r (now (out .exit)) ⌝ }
-{
-    let n = entries.len() / 12;
-    let mut o = at;
-    let mut k: usize = 0;
-    while k < n {
-        o = put_row(out, o, entries, features, buffer, k);
-        k += 1;
-    }
-    o
-}
-
-// Stores the entry in row k, which has room, so that it is not refused, and gives the place after it.
-fn put_row(
-    out: &mut [u8],
-    at: usize,
-    entries: &[u32],
-    features: &[u32],
-    buffer: &[u8],
-    k: usize,
-) -> usize
-    requires { ⌜ EntriesReady (lent (now entries) (now features) (now buffer)) × (k < length (now entries) / 12) ⌝ }
-    requires { ⌜ at + length (entryBytes (entryAt (lent (now entries) (now features) (now buffer)) k)) ≤ length (now out) ⌝ }
-    ensures { λ r. ⌜ Wrote (now (out .entry)) at (entryBytes (entryAt (lent (now (entries .entry)) (now (features .entry)) (now (buffer .entry))) k)) r (now (out .exit)) ⌝ }
-{
-    match entry_write::write_row(out, at, entries, features, buffer, k) {
-        Written::To(end) => end,
-        Written::Refused(_) => at,
-    }
 }

@@ -3,8 +3,9 @@
 use super::write;
 use super::writers::output;
 use crate::answer::Answer;
-use crate::case::{tables, Case};
+use crate::case::Case;
 use crate::rust::builds::Config;
+use crate::rust::tables::Lent;
 
 extern "C" {
     fn haspeljo_write_handshake(
@@ -47,25 +48,39 @@ extern "C" {
     ) -> u8;
 }
 
-pub fn write_handshake(case: &Case) -> Answer {
-    let [at, room] = output(case);
-    let ([entries, features], buffer) = tables::<2>(&case.bytes);
-    write(room, at, |out, r| unsafe {
+/// A handshake of the entry in a row, into a lent output from a place: r is where it ends, and the
+/// result 0 or a refusal number.
+pub fn put_handshake(
+    out: &mut [u8],
+    at: usize,
+    timestamp: u64,
+    lent: &Lent,
+    row: usize,
+    r: &mut [u64; 1],
+) -> u8 {
+    let Lent { entries, features, buffer } = lent;
+    unsafe {
         haspeljo_write_handshake(
             out.as_mut_ptr(),
             out.len(),
             at,
-            case.word(3),
+            timestamp,
             entries.as_ptr(),
             entries.len(),
             features.as_ptr(),
             features.len(),
             buffer.as_ptr(),
             buffer.len(),
-            case.place(2),
+            row,
             r,
         )
-    })
+    }
+}
+
+pub fn write_handshake(case: &Case) -> Answer {
+    let [at, room] = output(case);
+    let lent = Lent::of(&case.bytes);
+    write(room, at, |out, r| put_handshake(out, at, case.word(3), &lent, case.place(2), r))
 }
 
 pub fn build(case: &Case) -> Answer {

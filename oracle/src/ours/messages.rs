@@ -40,9 +40,7 @@ extern "C" {
 
 /// A message, with all of its items.
 pub fn from_frame(code: u8, body: &[u8], cap: usize, mainnet: u8) -> Answer {
-    let result =
-        call(|r| unsafe { haspeljo_from_frame(code, body.as_ptr(), body.len(), cap, mainnet, r) });
-    reached(result, |[kind, count, bogus, first, next]| {
+    reached(opened(code, body, cap, mainnet), |[kind, count, bogus, first, next]| {
         let items = match code {
             2 => peers(body, count, first, next),
             22 | 55 => ids(body, count, first, next),
@@ -51,6 +49,11 @@ pub fn from_frame(code: u8, body: &[u8], cap: usize, mainnet: u8) -> Answer {
         };
         (items.map(|items| Value::counted([kind, count, bogus, first], items)), next)
     })
+}
+
+/// A message's numbers.
+pub fn opened(code: u8, body: &[u8], cap: usize, mainnet: u8) -> Result<[u64; 5], Answer> {
+    call(|r| unsafe { haspeljo_from_frame(code, body.as_ptr(), body.len(), cap, mainnet, r) })
 }
 
 pub fn read_peers_body(body: &[u8], cap: usize, mainnet: u8) -> Answer {
@@ -116,7 +119,8 @@ pub fn read_payload(body: &[u8], at: usize, total: usize) -> Answer {
     })
 }
 
-fn payload_at(body: &[u8], at: usize, total: usize) -> Result<[u64; 5], Answer> {
+/// A payload's numbers.
+pub fn payload_at(body: &[u8], at: usize, total: usize) -> Result<[u64; 5], Answer> {
     call(|r| unsafe { haspeljo_read_payload(body.as_ptr(), body.len(), at, total, r) })
 }
 

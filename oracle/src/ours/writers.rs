@@ -1,8 +1,9 @@
-//! Our writers of entries and whole frames.
+//! Our writers of entries and whole frames: as they are, and on a case.
 
 use super::write;
 use crate::answer::Answer;
 use crate::case::{tables, Case};
+use crate::rust::tables::Lent;
 
 extern "C" {
     fn haspeljo_write_entry(
@@ -108,15 +109,12 @@ extern "C" {
 
 // SAFETY, of every call below: as in the module above; a table passes as a pointer and its length.
 
-/// The place and the length of a case's output.
-pub fn output(case: &Case) -> [usize; 2] {
-    [case.place(0), case.place(1)]
-}
+// A writer as it is writes into a lent output from a place; r is where it ends, and the result 0 or a
+// refusal number.
 
-pub fn write_entry(case: &Case) -> Answer {
-    let [at, room] = output(case);
-    let ([entries, features], buffer) = tables::<2>(&case.bytes);
-    write(room, at, |out, r| unsafe {
+pub fn put_entry(out: &mut [u8], at: usize, lent: &Lent, row: usize, r: &mut [u64; 1]) -> u8 {
+    let Lent { entries, features, buffer } = lent;
+    unsafe {
         haspeljo_write_entry(
             out.as_mut_ptr(),
             out.len(),
@@ -127,22 +125,28 @@ pub fn write_entry(case: &Case) -> Answer {
             features.len(),
             buffer.as_ptr(),
             buffer.len(),
-            case.place(2),
+            row,
             r,
         )
-    })
+    }
 }
 
-pub fn write_peers(case: &Case) -> Answer {
-    let [at, room] = output(case);
-    let ([entries, features], buffer) = tables::<2>(&case.bytes);
-    write(room, at, |out, r| unsafe {
+pub fn put_peers(
+    out: &mut [u8],
+    at: usize,
+    mainnet: u8,
+    cap: usize,
+    lent: &Lent,
+    r: &mut [u64; 1],
+) -> u8 {
+    let Lent { entries, features, buffer } = lent;
+    unsafe {
         haspeljo_write_peers(
             out.as_mut_ptr(),
             out.len(),
             at,
-            case.word(2) as u8,
-            case.place(3),
+            mainnet,
+            cap,
             entries.as_ptr(),
             entries.len(),
             features.as_ptr(),
@@ -151,7 +155,15 @@ pub fn write_peers(case: &Case) -> Answer {
             buffer.len(),
             r,
         )
-    })
+    }
+}
+
+/// A type byte and what one table names in a buffer.
+#[derive(Clone, Copy)]
+pub struct Typed<'a> {
+    pub kind: u8,
+    pub table: &'a [u32],
+    pub buffer: &'a [u8],
 }
 
 /// A writer of one table: output, network, type byte, table, buffer, result.
@@ -168,23 +180,71 @@ type OneTable = unsafe extern "C" fn(
     *mut [u64; 1],
 ) -> u8;
 
-fn one_table(case: &Case, writer: OneTable) -> Answer {
-    let [at, room] = output(case);
-    let ([table], buffer) = tables::<1>(&case.bytes);
-    write(room, at, |out, r| unsafe {
+fn put_typed(
+    writer: OneTable,
+    out: &mut [u8],
+    at: usize,
+    mainnet: u8,
+    Typed { kind, table, buffer }: Typed,
+    r: &mut [u64; 1],
+) -> u8 {
+    unsafe {
         writer(
             out.as_mut_ptr(),
             out.len(),
             at,
-            case.word(2) as u8,
-            case.word(3) as u8,
+            mainnet,
+            kind,
             table.as_ptr(),
             table.len(),
             buffer.as_ptr(),
             buffer.len(),
             r,
         )
-    })
+    }
+}
+
+pub fn put_modifier_response(
+    out: &mut [u8],
+    at: usize,
+    mainnet: u8,
+    payloads: Typed,
+    r: &mut [u64; 1],
+) -> u8 {
+    put_typed(haspeljo_write_modifier_response, out, at, mainnet, payloads, r)
+}
+
+pub fn put_inv(out: &mut [u8], at: usize, mainnet: u8, ids: Typed, r: &mut [u64; 1]) -> u8 {
+    put_typed(haspeljo_write_inv, out, at, mainnet, ids, r)
+}
+
+pub fn put_sync_info(out: &mut [u8], at: usize, mainnet: u8, body: &[u8], r: &mut [u64; 1]) -> u8 {
+    let (start, length) = (body.as_ptr(), body.len());
+    unsafe { haspeljo_write_sync_info(out.as_mut_ptr(), out.len(), at, mainnet, start, length, r) }
+}
+
+/// The place and the length of a case's output.
+pub fn output(case: &Case) -> [usize; 2] {
+    [case.place(0), case.place(1)]
+}
+
+pub fn write_entry(case: &Case) -> Answer {
+    let [at, room] = output(case);
+    let lent = Lent::of(&case.bytes);
+    write(room, at, |out, r| put_entry(out, at, &lent, case.place(2), r))
+}
+
+pub fn write_peers(case: &Case) -> Answer {
+    let [at, room] = output(case);
+    let lent = Lent::of(&case.bytes);
+    write(room, at, |out, r| put_peers(out, at, case.word(2) as u8, case.place(3), &lent, r))
+}
+
+fn one_table(case: &Case, writer: OneTable) -> Answer {
+    let [at, room] = output(case);
+    let ([table], buffer) = tables::<1>(&case.bytes);
+    let typed = Typed { kind: case.word(3) as u8, table: &table, buffer };
+    write(room, at, |out, r| put_typed(writer, out, at, case.word(2) as u8, typed, r))
 }
 
 pub fn write_modifier_request(case: &Case) -> Answer {
@@ -208,12 +268,7 @@ pub fn write_get_peers(case: &Case) -> Answer {
 
 pub fn write_sync_info(case: &Case) -> Answer {
     let [at, room] = output(case);
-    let body = &case.bytes;
-    write(room, at, |out, r| unsafe {
-        let mainnet = case.word(2) as u8;
-        let (start, length) = (body.as_ptr(), body.len());
-        haspeljo_write_sync_info(out.as_mut_ptr(), out.len(), at, mainnet, start, length, r)
-    })
+    write(room, at, |out, r| put_sync_info(out, at, case.word(2) as u8, &case.bytes, r))
 }
 
 /// A writer of a body as it is: output, network, code, body, result.

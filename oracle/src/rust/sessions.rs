@@ -91,7 +91,12 @@ pub fn lines(s: &[u8], mainnet: u8, cap: u64) -> String {
 }
 
 /// The line of the item at a place and the item's end, or the layer and the error that stop the walk.
-fn line(s: &[u8], at: u64, mainnet: u8, cap: u64) -> Result<(String, u64), (&'static str, io::Error)> {
+fn line(
+    s: &[u8],
+    at: u64,
+    mainnet: u8,
+    cap: u64,
+) -> Result<(String, u64), (&'static str, io::Error)> {
     if at == 0 {
         let (spec, end) = entries::parsed(s).map_err(|e| ("handshake", e))?;
         let v = spec.version;

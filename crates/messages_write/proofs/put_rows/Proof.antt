@@ -2,7 +2,7 @@
 use Prim.Native.Nat.{_+_, _-_}
 use native.Mathlib.Omega.{arith}
 use denote.Ref.{now}
-use lib.ListN.{length, getD}
+use lib.ListN.{length}
 use borrow.Author.Needs.{needs}
 use Rattle.handshake.specs.PuttingLaws.{putting-start, putting-end}
 use Rattle.messages.specs.Writes.{idsOf}
@@ -31,27 +31,21 @@ shared-slice-read-from c = search needs
 cast-from : tie.Need-cast-from Inv-loop μ-loop
 cast-from c = omega (arith, c .shared-slice-known3 .given (c .before .before .loop .i))
 
-add-write-part : tie.Need-add-write-part Inv-loop μ-loop
-add-write-part c = omega (arith, c .before .shared-slice-known3 .given (c .before .before .before .loop .i))
+id-at-requires : tie.Need-id-at-requires Inv-loop μ-loop
+id-at-requires c κs =
+    let a = c .before .before .before .before .before .before .args in
+    id-inside (now (a .ids)) (now (a .buffer)) (c .before .before .loop .inv) (omega arith)
 
-sub-write-part : tie.Need-sub-write-part Inv-loop μ-loop
-sub-write-part c = search needs
-
-part-write-part-start : tie.Need-part-write-part-start Inv-loop μ-loop
-part-write-part-start c = search needs
-
-part-write-part-end : tie.Need-part-write-part-end Inv-loop μ-loop
-part-write-part-end c =
-    let a = c .before .before .before .before .before .before .before .args in
-    omega (arith, id-inside (now (a .ids)) (now (a .buffer)) (c .before .before .before .loop .inv) (omega arith))
+slice-aggregate-write-part : tie.Need-slice-aggregate-write-part Inv-loop μ-loop
+slice-aggregate-write-part c = search needs
 
 write-part-requires : tie.Need-write-part-requires Inv-loop μ-loop
 write-part-requires c κs = search needs
 
 add-o : tie.Need-add-o Inv-loop μ-loop
 add-o c =
-    let a = c .before .before .before .before .before .before .before .before .before .before .before .args in
-    omega (arith, id-room (now (a .ids)) (now (a .buffer)) (c .before .before .before .before .before .before .before .loop .inv) (omega arith))
+    let a = c .before .before .before .before .before .before .before .before .before .before .before .before .args in
+    omega (arith, id-room (now (a .ids)) (now (a .buffer)) (c .before .before .before .before .before .before .before .before .loop .inv) (omega arith))
 
 add-i : tie.Need-add-i Inv-loop μ-loop
 add-i c = search needs
@@ -61,11 +55,10 @@ loop-less c = omega arith
 
 loop-again : tie.Need-loop-again Inv-loop μ-loop
 loop-again c =
-    let l = c .before .before .before .before .before .before .before .loop in
+    let l = c .before .before .before .before .before .before .before .before .loop in
     let w = c .before .before .write-part .ensures in
-    let a = c .before .before .before .before .before .before .before .before .before .before .before .args in
-    let from = getD (now (a .ids)) (l .i) 0 in
-    id-stored (now (a .ids)) (now (a .buffer)) (l .inv) (omega arith) (from + 32 - from) (omega arith) (w .0) (w .1)
+    let a = c .before .before .before .before .before .before .before .before .before .before .before .before .args in
+    id-stored (now (a .ids)) (now (a .buffer)) (l .inv) (omega arith) (c .before .before .before .before .before .id-at .ensures) (w .0) (w .1)
 
 same-length : tie.Need-same-length Inv-loop μ-loop
 same-length c = c .before .loop .inv .writing .long
@@ -84,10 +77,8 @@ put-rows-spec =
     mul-from
     shared-slice-read-from
     cast-from
-    add-write-part
-    sub-write-part
-    part-write-part-start
-    part-write-part-end
+    id-at-requires
+    slice-aggregate-write-part
     write-part-requires
     add-o
     add-i

@@ -1,51 +1,46 @@
--- `peers_write::write_peers` meets its contract: the questions were answered, and the frame was stored once all held.
+-- `peers_write::write_peers` meets its contract: where the frame can start the entries were asked and written once, elsewhere they were asked alone.
+use Prim.Native.Nat.{_/_}
 use mathlib.Core.Path.{sym, _∙_}
 use denote.Ref.{now}
+use lib.ListN.{length}
 use borrow.Author.Needs.{needs}
-use Rattle.wire.specs.StandingLaws.{after-put, after-refused}
 use Rattle.handshake.specs.Tables.{lent}
 use Rattle.messages.specs.Value.{codeOf}
 use Rattle.messages.specs.Writes.{valueOf}
-use Rattle.peers_write.specs.PeersLaws.{said-peers, asked-peers}
+use Rattle.peers_write.specs.PeersLaws.{said-peers, start-room, rows-peers, not-started}
 use Rattle.peers_write.proofs.write_peers.Statement.{statement}
 use Rattle.peers_write.proofs.write_peers.Tie as tie
 
-put-peers-requires : tie.Need-put-peers-requires
-put-peers-requires c κs =
-    let d = c .before .before .before in
-    let a = c .before .before .before .before .before .before .before .before .before .args in
-    let l = lent (now (a .entries)) (now (a .features)) (now (a .buffer)) in
-    let says = rw (d .before .ask-entries .ensures) at (d .ask-peers .ensures) ∙ said-peers (a .network) (a .cap) l (now (a .out)) (a .at) in
-    asked-peers (a .network) (a .cap) l (now (a .out)) (a .at) (sym says ∙ c .before .enum-told .given .1)
+write-frame-requires : tie.Need-write-frame-requires
+write-frame-requires c κs =
+    let a = c .before .before .before .before .before .before .before .args in
+    start-room (a .cap) (length (now (a .entries)) / 12) (length (now (a .out))) (a .at) (sym (c .before .before .starts .ensures) ∙ c .before .if1 .taken)
 
 returns : tie.Need-returns
 unfolding valueOf codeOf
 returns c =
-    let d = c .before .before .before .before .before .before in
-    let a = c .before .before .before .before .before .before .before .before .before .before .before .before .args in
-    let l = lent (now (a .entries)) (now (a .features)) (now (a .buffer)) in (
-      rw (d .before .ask-entries .ensures) at (d .ask-peers .ensures) ∙ said-peers (a .network) (a .cap) l (now (a .out)) (a .at),
-      after-put _ _ _ (c .before .before .before .before .enum-told .given .1) (c .before .before .put-peers .ensures),
-    )
+    let a = c .before .before .before .before .before .before .before .before .before .before .args in
+    let l = lent (now (a .entries)) (now (a .features)) (now (a .buffer)) in
+    let start = sym (c .before .before .before .before .before .starts .ensures) ∙ c .before .before .before .before .if1 .taken in
+    let w = c .before .before .write-frame .ensures in
+    (w .0 ∙ rows-peers (a .network) (a .cap) l (now (a .out)) (a .at) start, w .1)
 
 returns-2 : tie.Need-returns-2
 returns-2 c =
-    let d = c .before .before in
     let a = c .before .before .before .before .before .before .before .before .args in
-    let l = lent (now (a .entries)) (now (a .features)) (now (a .buffer)) in (
-      rw (d .before .ask-entries .ensures) at (d .ask-peers .ensures) ∙ said-peers (a .network) (a .cap) l (now (a .out)) (a .at),
-      after-refused _ _ (c .enum-told2 .given .1),
-    )
+    let l = lent (now (a .entries)) (now (a .features)) (now (a .buffer)) in
+    let start = sym (c .before .before .before .starts .ensures) ∙ c .before .before .if1 .left in
+    let says = rw (c .before .ask-entries .ensures) at (c .ask-peers .ensures) ∙ said-peers (a .network) (a .cap) l (now (a .out)) (a .at) in
+    (says, not-started (a .network) (a .cap) l (now (a .out)) (a .at) _ _ says start)
 
 pub write-peers-spec : {M : Type 1} → statement M
 write-peers-spec =
     tie.close
     (tie.spec
     (λ c κs. search needs)
-    (λ c κs. search needs)
-    (λ c. search needs)
-    put-peers-requires
-    (λ c. search needs)
+    write-frame-requires
     (λ c. search needs)
     returns
+    (λ c κs. search needs)
+    (λ c κs. search needs)
     returns-2)

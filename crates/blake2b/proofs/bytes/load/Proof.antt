@@ -7,7 +7,7 @@ use lib.ListN.{set, take, drop}
 use lib.Seq.{take-length}
 use Rattle.blake2b.specs.Blake2b.{word, words}
 use Rattle.blake2b.proofs.Blocks.{length-words, words-at}
-use Rattle.blake2b.proofs.Filled.{filled, filled-more, filled-all}
+use Rattle.blake2b.specs.FilledLaws.{filled, filled-more, filled-all}
 use Rattle.blake2b.proofs.bytes.load.Statement.{statement}
 use Rattle.blake2b.proofs.bytes.load.Tie as tie
 

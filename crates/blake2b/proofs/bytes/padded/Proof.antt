@@ -6,7 +6,7 @@ use native.Mathlib.Omega.{arith}
 use lib.ListN.{length, take, drop, set, replicate, length-drop}
 use lib.Seq.{getD-drop}
 use Rattle.blake2b.specs.Blake2b.{bb, _!_}
-use Rattle.blake2b.proofs.Filled.{filled, filled-more, filled-padded}
+use Rattle.blake2b.specs.FilledLaws.{filled, filled-more, filled-padded}
 use Rattle.blake2b.proofs.bytes.padded.Statement.{statement}
 use Rattle.blake2b.proofs.bytes.padded.Tie as tie
 

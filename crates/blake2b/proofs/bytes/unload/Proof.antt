@@ -7,7 +7,7 @@ use lib.ListN.{length, set}
 use Rattle.blake2b.specs.Blake2b.{_!_, bytes, unwords}
 use Rattle.blake2b.specs.CheckLaws.{length-unwords}
 use Rattle.blake2b.proofs.Blocks.{unwords-at}
-use Rattle.blake2b.proofs.Filled.{filled, filled-more, filled-all}
+use Rattle.blake2b.specs.FilledLaws.{filled, filled-more, filled-all}
 use Rattle.blake2b.proofs.bytes.unload.Statement.{statement}
 use Rattle.blake2b.proofs.bytes.unload.Tie as tie
 

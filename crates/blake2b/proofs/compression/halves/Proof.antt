@@ -5,7 +5,7 @@ use Prim.Native.Nat.{ℕ, _≤_, _+_, _-_}
 use native.Mathlib.Omega.{arith}
 use lib.ListN.{length}
 use lib.Seq.{take-all}
-use Rattle.blake2b.proofs.Filled.{filled, filled-both, filled-all}
+use Rattle.blake2b.specs.FilledLaws.{filled, filled-both, filled-all}
 use Rattle.blake2b.proofs.compression.halves.Statement.{statement}
 use Rattle.blake2b.proofs.compression.halves.Tie as tie
 

@@ -1,11 +1,11 @@
--- `entry_ask::entry_at` meets its contract: each number is that of its column, or 0 past the last row.
+-- `entry_ask::partial_entry` meets its contract: each number is that of its column, or 0 past the last row.
 use Prim.Native.Nat.{_+_, _*_}
 use native.Mathlib.Omega.{arith}
 use denote.Ref.{now}
 use Rattle.entry_ask.proofs.ClampLaws.{in-twelve}
 use borrow.Author.Needs.{needs}
-use Rattle.entry_ask.proofs.entry_at.Statement.{statement}
-use Rattle.entry_ask.proofs.entry_at.Tie as tie
+use Rattle.entry_ask.proofs.partial_entry.Statement.{statement}
+use Rattle.entry_ask.proofs.partial_entry.Tie as tie
 
 returns : tie.Need-returns
 returns c =
@@ -28,8 +28,8 @@ returns c =
       count = in-twelve t (a .k) r 11 (12 * r + 11) (12 * a .k + 11) (c .number-at12 .ensures) e (omega arith) (omega arith) i;
     }
 
-pub entry-at-spec : {M : Type 1} → statement M
-entry-at-spec =
+pub partial-entry-spec : {M : Type 1} → statement M
+partial-entry-spec =
     tie.close
     (tie.spec
     (λ c. search needs)

@@ -1,13 +1,16 @@
--- `peers_write::put_rows` meets its contract: the rows before k were stored.
+-- `entry_write::put_rows` meets its contract: the rows before k were stored.
 use Prim.Native.Nat.{_-_, _/_}
 use native.Mathlib.Omega.{arith}
+use denote.Ref.{now}
 use lib.ListN.{length}
 use borrow.Author.Needs.{needs}
 use Rattle.handshake.specs.Value.{entryBytes}
 use Rattle.handshake.specs.Tables.{lent, entryRow, entryOf, entriesOf, entryInside}
 use Rattle.handshake.specs.PuttingLaws.{Putting, putting-start, putting-room, putting-turn, putting-end}
-use Rattle.peers_write.proofs.put_rows.Statement.{statement}
-use Rattle.peers_write.proofs.put_rows.Tie as tie
+use Rattle.entry_ask.specs.AskedLaws.{own-entry}
+use Rattle.entry_write.specs.RowsLaws.{each-row-ready}
+use Rattle.entry_write.proofs.put_rows.Statement.{statement}
+use Rattle.entry_write.proofs.put_rows.Tie as tie
 
 abbrev Inv-loop : tie.InvT-loop
 Inv-loop out₀ at entries features buffer n o₀ k₀ out o k =
@@ -20,14 +23,25 @@ loop-holds : tie.Need-loop-holds Inv-loop μ-loop
 unfolding entriesOf
 loop-holds c = let s = c .before .before .before .before in putting-start _ _ _ _ _ _ _ (s .pre .0 .inside) (s .pre .1)
 
-put-row-requires : tie.Need-put-row-requires Inv-loop μ-loop
-put-row-requires c κs = ((c .before .before .before .before .before .before .before .pre .0, omega arith), putting-room (c .before .before .loop .inv) (omega arith))
+put-entry-requires : tie.Need-put-entry-requires Inv-loop μ-loop
+put-entry-requires c κs =
+    let s = c .before .before .before .before .before .before .before .before in
+    let a = s .args in
+    let l = lent (now (a .entries)) (now (a .features)) (now (a .buffer)) in
+    let k = c .before .before .before .loop .k in
+    rw (c .before .entry-at .ensures)
+    (each-row-ready l k (omega arith) (s .pre .0), rw (own-entry l (entryRow (l .entries) k)) (putting-room (c .before .before .before .loop .inv) (omega arith)))
 
 loop-less : tie.Need-loop-less Inv-loop μ-loop
 loop-less c = omega arith
 
 loop-again : tie.Need-loop-again Inv-loop μ-loop
-loop-again c = putting-turn (c .before .before .before .before .before .loop .inv) (omega arith) (c .before .before .put-row .ensures)
+loop-again c =
+    let s = c .before .before .before .before .before .before .before .before .before .before .before in
+    let a = s .args in
+    let l = lent (now (a .entries)) (now (a .features)) (now (a .buffer)) in
+    let i = c .before .before .before .before .before .before .loop in
+    putting-turn (i .inv) (omega arith) (rw (c .before .before .before .before .entry-at .ensures, own-entry l (entryRow (l .entries) (i .k))) at (c .before .before .put-entry .ensures))
 
 same-length : tie.Need-same-length Inv-loop μ-loop
 same-length c = c .before .loop .inv .writing .long
@@ -43,7 +57,8 @@ put-rows-spec =
     Inv-loop
     μ-loop
     loop-holds
-    put-row-requires
+    (λ c κs. search needs)
+    put-entry-requires
     (λ c. search needs)
     loop-less
     loop-again

@@ -1,11 +1,11 @@
--- `entry_ask::feature_at` meets its contract: each number is that of its column, or 0 past the last row.
+-- `entry_ask::partial_feature` meets its contract: each number is that of its column, or 0 past the last row.
 use Prim.Native.Nat.{_+_, _*_}
 use native.Mathlib.Omega.{arith}
 use denote.Ref.{now}
 use Rattle.entry_ask.proofs.ClampLaws.{in-three}
 use borrow.Author.Needs.{needs}
-use Rattle.entry_ask.proofs.feature_at.Statement.{statement}
-use Rattle.entry_ask.proofs.feature_at.Tie as tie
+use Rattle.entry_ask.proofs.partial_feature.Statement.{statement}
+use Rattle.entry_ask.proofs.partial_feature.Tie as tie
 
 returns : tie.Need-returns
 returns c =
@@ -19,8 +19,8 @@ returns c =
       len = in-three t (a .k) r 2 (3 * r + 2) (3 * a .k + 2) (c .number-at3 .ensures) e (omega arith) (omega arith) i;
     }
 
-pub feature-at-spec : {M : Type 1} → statement M
-feature-at-spec =
+pub partial-feature-spec : {M : Type 1} → statement M
+partial-feature-spec =
     tie.close
     (tie.spec
     (λ c. search needs)

@@ -1,0 +1,82 @@
+//! Measures our functions against others in one run, and fails where ours passes a bound.
+
+mod clock;
+mod memory;
+mod readings;
+mod rows;
+mod values;
+mod writings;
+
+use rows::Row;
+use std::os::unix::process::CommandExt;
+use std::process::{Command, ExitCode};
+use std::{env, iter};
+
+/// The median of so many samples counts. The samples of all rows are taken by turns.
+const SAMPLES: usize = 7;
+
+/// The largest time per MiB of sessions may be so much of the smallest.
+const GROWTH: f64 = 1.15;
+
+/// What Cargo sets for the comparison (`.cargo/config.toml`).
+const MALLOC: &str = "MALLOC_MMAP_THRESHOLD_";
+
+fn main() -> ExitCode {
+    if env::var_os(MALLOC).is_some() {
+        return again();
+    }
+    let mut rows: Vec<Row> = readings::rows().into_iter().chain(writings::rows()).collect();
+    let samples = samples(&mut rows);
+    let mut above: Vec<String> =
+        rows.iter().zip(&samples).flat_map(|(row, samples)| row.report(samples)).collect();
+    above.extend(growth(&rows, &samples));
+    above.extend(memory::resident().err());
+    above.extend(memory::symbols().err());
+    println!();
+    for line in &above {
+        println!("FAILED: {line}");
+    }
+    if above.is_empty() {
+        println!("all within the bounds");
+        ExitCode::SUCCESS
+    } else {
+        ExitCode::FAILURE
+    }
+}
+
+/// Starts anew without the setting, under which the Rust would take its longer Vecs from the kernel
+/// each time.
+fn again() -> ExitCode {
+    let program = env::current_exe().expect("the program's path");
+    let error = Command::new(program).env_remove(MALLOC).exec();
+    println!("the program does not start anew: {error}");
+    ExitCode::FAILURE
+}
+
+/// Of each row its samples.
+fn samples(rows: &mut [Row]) -> Vec<Vec<Vec<f64>>> {
+    let mut samples = vec![vec![]; rows.len()];
+    for _ in 0..SAMPLES {
+        for (row, samples) in iter::zip(rows.iter_mut(), &mut samples) {
+            samples.push(clock::sample(row));
+        }
+    }
+    samples
+}
+
+/// Prints our time per MiB of the sessions of several lengths: what failed.
+fn growth(rows: &[Row], samples: &[Vec<Vec<f64>>]) -> Option<String> {
+    println!("time per MiB:");
+    let mut times = vec![];
+    for (row, samples) in rows.iter().zip(samples) {
+        let Some(mib) = row.mib else { continue };
+        let time = rows::time(samples, 0) / mib;
+        println!("  {:<18} {time:8.3} ms", row.name);
+        times.push(time);
+    }
+    let largest = times.iter().copied().fold(0.0, f64::max);
+    let smallest = times.iter().copied().fold(f64::INFINITY, f64::min);
+    let ratio = largest / smallest;
+    println!("  largest to smallest {ratio:.2}, at most {GROWTH:.2}");
+    (ratio > GROWTH).then(|| format!("time per MiB of sessions: largest to smallest {ratio:.2}"))
+}

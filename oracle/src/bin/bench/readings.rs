@@ -1,0 +1,179 @@
+//! Rows of hashes and of readers.
+
+use crate::rows::{Row, Side, HALF};
+use crate::values::{self, ENTRIES, MAINNET};
+use oracle::ours::entries::{entry_at, parsed};
+use oracle::ours::messages::{opened, payload_at};
+use oracle::{hashes, ours};
+use p2p::protocol::address_sanity::is_bogus_address;
+use p2p::protocol::messages::{build_peers_body, parse_peers_body, ProtocolMessage};
+use p2p::transport::frame::{decode, encode, Frame};
+use p2p::transport::handshake::{measure_size, parse, validate_peer, PeerSpec};
+use p2p::types::Network;
+use std::fmt::Debug;
+use std::hint::black_box;
+use std::rc::Rc;
+
+pub fn rows() -> Vec<Row> {
+    vec![
+        hash("hash of 16 MiB", [1.12, 1.0], 16 << 20, 1),
+        hash("hash of 100 bytes", [1.0, 1.0], 100, 20_000),
+        handshake(20_000),
+        peers(400),
+        inv(2_000),
+        response(1),
+        frame("decode of 100 bytes", 100, 20_000),
+        frame("decode of 64 KiB", 64 << 10, 50),
+        session("session of 64 KiB", 64 << 10, 50),
+        session("session of 1 MiB", MIB, 4),
+        session("session of 4 MiB", 4 * MIB, 1),
+        session("session of 16 MiB", 16 * MIB, 1),
+        session("session of 64 MiB", 64 * MIB, 1),
+    ]
+}
+
+const MIB: usize = 1 << 20;
+
+fn hash(name: &'static str, [libb2, rfc]: [f64; 2], length: usize, calls: usize) -> Row {
+    let data: Rc<[u8]> = (0..length).map(|i| (i * 31) as u8).collect();
+    let side = |name, bound, hash: fn(&[u8]) -> [u8; 32]| {
+        let data = data.clone();
+        let run = move || {
+            for _ in 0..calls {
+                black_box(hash(black_box(&data)));
+            }
+        };
+        Side::new(name, bound, run)
+    };
+    let sides = vec![
+        side("ours", None, ours::blake2b256),
+        side("libb2", Some(libb2), hashes::libb2),
+        side("blake2-rfc", Some(rfc), hashes::blake2_rfc),
+    ];
+    Row::new(name, sides)
+}
+
+/// Both sides' readings of the same value, so many times.
+fn both<T: ?Sized + 'static>(
+    calls: usize,
+    value: impl Into<Rc<T>>,
+    ours: fn(&T),
+    rust: fn(&T),
+) -> [impl FnMut() + Clone; 2] {
+    let value = value.into();
+    [ours, rust].map(|read| {
+        let value = value.clone();
+        move || (0..calls).for_each(|_| read(black_box(&value)))
+    })
+}
+
+/// A reading that is there and that nothing may leave out.
+fn keep<T, E: Debug>(reading: Result<T, E>) {
+    black_box(reading.expect("a reading"));
+}
+
+fn handshake(calls: usize) -> Row {
+    let bytes = (values::handshake().rust)();
+    let [ours, rust] = both::<[u8]>(calls, bytes, |s| keep(parsed(s)), |s| keep(parse(s)));
+    Row::plain("parse of a handshake", HALF, ours, rust)
+}
+
+/// A body of Peers, of which our side reads entry after entry.
+fn peers(calls: usize) -> Row {
+    let body = build_peers_body(&values::peer_list());
+    let ours = |s: &[u8]| {
+        let mut at = 1;
+        for _ in 0..s[0] {
+            let [.., next] = entry_at(s, at).expect("an entry");
+            at = black_box(next) as usize;
+        }
+    };
+    let [ours, rust] = both(calls, body, ours, |s| keep(parse_peers_body(s, ENTRIES)));
+    Row::plain("Peers of 64 entries", HALF, ours, rust)
+}
+
+/// An Inv, of which our side reads a byte of each id.
+fn inv(calls: usize) -> Row {
+    let ours = |frame: &Frame| {
+        let [_, count, _, first, _] = message(frame);
+        let firsts = (0..count).map(|i| frame.body[(first + 32 * i) as usize]);
+        black_box(firsts.fold(0, u8::wrapping_add));
+    };
+    let [ours, rust] = both(calls, frame_of(values::inv()), ours, |frame| keep(typed(frame)));
+    Row::plain("from_frame of Inv of 400 ids", HALF, ours, rust)
+}
+
+/// A ModifierResponse, of which our side reads payload after payload.
+fn response(calls: usize) -> Row {
+    let ours = |frame: &Frame| {
+        let [_, count, _, first, _] = message(frame);
+        let (mut at, mut total) = (first, 0);
+        for _ in 0..count {
+            let [id, place, length, next, sum] =
+                payload_at(&frame.body, at as usize, total as usize).expect("a payload");
+            black_box([part(&frame.body, id, 32), part(&frame.body, place, length)]);
+            (at, total) = (next, sum);
+        }
+    };
+    let frame = frame_of(values::response(400));
+    let [ours, rust] = both(calls, frame, ours, |frame| keep(typed(frame)));
+    Row::plain("from_frame of Response of 8 MB", HALF, ours, rust)
+}
+
+fn typed(frame: &Frame) -> std::io::Result<ProtocolMessage> {
+    ProtocolMessage::from_frame(frame)
+}
+
+/// Our numbers of a message.
+fn message(frame: &Frame) -> [u64; 5] {
+    opened(frame.code, &frame.body, ENTRIES, MAINNET).expect("a message")
+}
+
+fn part(s: &[u8], at: u64, length: u64) -> &[u8] {
+    &s[at as usize..][..length as usize]
+}
+
+fn frame_of(message: values::Writing) -> Frame {
+    decode(&Network::Mainnet.magic(), &(message.rust)()).expect("a frame")
+}
+
+fn frame(name: &'static str, length: usize, calls: usize) -> Row {
+    let body = (0..length).map(|i| (i * 31) as u8).collect();
+    let bytes = encode(&Network::Mainnet.magic(), &Frame { code: 65, body });
+    let ours = |s: &[u8]| keep(ours::frames::decoded(s, 0, MAINNET));
+    let rust = |s: &[u8]| keep(decode(&Network::Mainnet.magic(), s));
+    let [ours, rust] = both(calls, bytes, ours, rust);
+    Row::hashing(name, ours, rust)
+}
+
+/// The walk over a session of at least so many bytes.
+fn session(name: &'static str, length: usize, calls: usize) -> Row {
+    let bytes = values::session(length).bytes;
+    let mib = (calls * bytes.len()) as f64 / MIB as f64;
+    let ours = |s: &[u8]| assert!(ours::sessions::items(s, MAINNET, ENTRIES) > 1);
+    let rust = |s: &[u8]| assert!(items(s) > 1);
+    let [ours, rust] = both(calls, bytes, ours, rust);
+    Row { mib: (length >= MIB).then_some(mib), ..Row::hashing(name, ours, rust) }
+}
+
+/// The walk put together from the Rust's functions: how many items there are.
+fn items(s: &[u8]) -> u64 {
+    let spec = parse(s).expect("a handshake");
+    black_box(validate_peer(&spec, &Network::Mainnet).is_ok());
+    let mut at = measure_size(s).expect("a handshake");
+    let mut count = 1;
+    while at < s.len() {
+        let frame = decode(&Network::Mainnet.magic(), &s[at..]).expect("a frame");
+        at += if frame.body.is_empty() { 9 } else { 13 + frame.body.len() };
+        if let ProtocolMessage::Peers { body } = typed(&frame).expect("a message") {
+            let specs = parse_peers_body(&body, ENTRIES).expect("entries");
+            black_box(specs.iter().filter(|spec| is_bogus(spec)).count());
+        }
+        count += 1;
+    }
+    count
+}
+
+fn is_bogus(spec: &PeerSpec) -> bool {
+    spec.address.is_some_and(|address| is_bogus_address(address, Network::Mainnet))
+}
