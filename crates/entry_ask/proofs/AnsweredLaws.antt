@@ -15,7 +15,7 @@ use Rattle.vlq.specs.Vlq.{limit}
 use Rattle.handshake.specs.declared.FeatureRow.{FeatureRow}
 use Rattle.handshake.specs.declared.EntryRow.{EntryRow}
 use Rattle.handshake.specs.Value.{entryBytes, shortStrings, utf8Strings, entriesAsked}
-use Rattle.handshake.specs.Tables.{Lent, lent, rows, featureRow, entryRow, entryRows, featureRows, ownRows, bytesAt, featureOf, entryOf, entriesOf, wholeRows, featureNumbers, entryNumbers, tablesWhole, inside, featureInside, entryInside}
+use Rattle.handshake.specs.Tables.{Lent, lent, rows, featureRow, entryRow, entryRows, featureRows, bytesAt, featureOf, entryOf, entriesOf, wholeRows, featureNumbers, entryNumbers, tablesWhole, inside, featureInside, entryInside}
 use Rattle.entry_ask.specs.Asked.{featureHolds, rowHolds, numbersWhole, entriesSaid, rowSaid, partsSaid}
 use Rattle.entry_ask.specs.Answered.{UpTo, FeatureAnswered, Answered, TablesAnswered, Fits}
 use Rattle.entry_ask.specs.AskedLaws.{own-utf8, few-count, rows-numbers, rows-inside, rows-short, rows-utf8, rows-count, rows-lengths, features-numbers, features-inside, features-lengths, row-parts}

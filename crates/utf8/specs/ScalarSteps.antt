@@ -10,10 +10,10 @@ use native.Mathlib.Omega.{arith}
 use borrow.Author.Tests.{le-leb, lt-leb, leb-true, eqb-true}
 use lib.Dec.{leb}
 use lib.ListN.{drop}
+use Rattle.wire.specs.BytesLaws.{and-true}
 use Rattle.utf8.specs.declared.Lead.{Lead}
 use Rattle.utf8.specs.declared.Lead.the-variants.{Followers, Bad}
 use Rattle.utf8.specs.Utf8.{Row, row, rows, leadIn, leadOf, afterLead, utf8From, utf8}
-use Rattle.utf8.specs.Utf8Laws.{and-true}
 use Rattle.utf8.specs.Scalars.{Scalar, Scalars, encode, encodeAll, EncodingOf}
 
 -- ---- a test on a number, taken apart

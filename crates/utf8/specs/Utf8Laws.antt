@@ -5,6 +5,7 @@ use mathlib.Core.List.{List, [], _∷_, _++_}
 use mathlib.Core.Path.{_≡_, refl, ap, _∙_}
 use borrow.Author.Tests.{eqb-true}
 use lib.Dec.{leb}
+use Rattle.wire.specs.BytesLaws.{and-true}
 use Rattle.utf8.specs.declared.Lead.{Lead}
 use Rattle.utf8.specs.declared.Lead.the-variants.{Followers, Bad}
 use Rattle.utf8.specs.Utf8.{leadOf, afterLead, utf8From, utf8}
@@ -18,10 +19,6 @@ pub none-due : (bs : List ℕ) (low high low′ high′ : ℕ) → utf8From bs 0
 unfolding utf8From
 none-due [] low high low′ high′ = refl
 none-due (b ∷ bs) low high low′ high′ = refl
-
-pub and-true : (t u : Bool) → t && u ≡ true → (t ≡ true) × (u ≡ true)
-and-true true u e = (refl, e)
-and-true false u e = absurd (false≢true e)
 
 after-append : (v : Lead) (f g : ℕ → ℕ → ℕ → Bool) (r : Bool) → ((n low high : ℕ) → f n low high ≡ true → g n low high ≡ r)
     → afterLead v f ≡ true → afterLead v g ≡ r

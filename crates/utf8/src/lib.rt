@@ -1,6 +1,9 @@
 // UTF-8 (RFC 3629), as `String::from_utf8` tests it.
 ghost use mathlib.Core.Path.{_≡_};
+ghost use Prim.Native.Nat.{_≤_};
+ghost use lib.ListN.{length};
 ghost use Rattle.utf8.specs.Utf8.{leadOf, utf8};
+ghost use Rattle.utf8.specs.Ascii.{AtMost};
 
 // What a lead byte says: how many followers it has, and the bounds of the first.
 pub enum Lead {
@@ -25,11 +28,40 @@ pub fn lead_of(b: u8) -> Lead
     }
 }
 
-// Is all of s UTF-8?
+// Is all of s UTF-8? Bytes up to 0x7F are, and most strings have no others.
 pub fn is_utf8(s: &[u8]) -> bool
     ensures { λ r. ⌜ r ≡ utf8 (now (s .entry)) ⌝ }
 {
+    if highest(s) <= 0x7F {
+        return true;
+    }
+    is_sequence(s)
+}
+
+// A number that no byte of s is above.
+fn highest(s: &[u8]) -> u8
+    ensures { λ r. ⌜ AtMost (now (s .entry)) (length (now (s .entry))) r ⌝ }
+{
+    let mut m: u8 = 0;
     let mut at = 0;
+    while at < s.len() {
+        m = higher_of(m, s[at]);
+        at += 1;
+    }
+    m
+}
+
+fn higher_of(a: u8, b: u8) -> u8
+    ensures { λ r. ⌜ (a ≤ r) × (b ≤ r) ⌝ }
+{
+    if a < b { b } else { a }
+}
+
+// Is s a sequence of lead bytes with their followers?
+fn is_sequence(s: &[u8]) -> bool
+    ensures { λ r. ⌜ r ≡ utf8 (now (s .entry)) ⌝ }
+{
+    let mut at: usize = 0;
     let mut left: u8 = 0;
     let mut low: u8 = 0x80;
     let mut high: u8 = 0xBF;

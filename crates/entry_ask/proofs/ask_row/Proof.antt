@@ -1,13 +1,11 @@
 -- `entry_ask::ask_row` meets its contract: each answer is the definition's, by the tests that led to it.
 use native.Mathlib.Omega.{arith}
-use mathlib.Core.List.{[]}
 use mathlib.Core.Path.{sym, ap, _∙_}
 use denote.Ref.{now}
 use borrow.Author.Needs.{needs}
 use borrow.Author.Tests.{not-true, not-false}
 use Rattle.wire.specs.declared.Written.the-variants.{To}
-use Rattle.handshake.specs.Value.{entryBytes}
-use Rattle.handshake.specs.Tables.{lent, entryOf}
+use Rattle.handshake.specs.Tables.{lent}
 use Rattle.entry_ask.specs.Asked.{numbersWhole, partsSaid}
 use Rattle.entry_ask.specs.AskedLaws.{row-few, row-outside, row-broken, row-parts}
 use Rattle.entry_ask.specs.declared.About.the-variants.{Count}

@@ -1,7 +1,6 @@
 -- `entry_ask::features_ready` meets its contract. The loop has come to row k; every question of the rows before it is answered "yes".
 use Prim.Native.Nat.{_+_, _-_, _≤_}
 use native.Mathlib.Omega.{arith}
-use mathlib.Core.Path.{ap}
 use denote.Ref.{now}
 use borrow.Author.Needs.{needs}
 use borrow.Author.Tests.{not-false}

@@ -1,0 +1,176 @@
+//! The readers of entries, handshakes, frames and message bodies, 18 to 32. An answer is numbers;
+//! the places among them are those of the parts that the crate lends out of the bytes.
+
+use crate::cases::Case;
+use haspeljo::{decode, Entry, Error, Handshake, Message, MessageCode, Network};
+use std::net::{IpAddr, SocketAddr};
+use std::ops::Range;
+
+type Numbers = Result<Vec<u64>, Error>;
+
+/// Which numbers of a frozen answer the crate does not show, by their indices.
+fn hidden(function: u8, numbers: &[u64]) -> &'static [usize] {
+    match (function, numbers) {
+        // The place of the first feature.
+        (18 | 20 | 29, _) => &[13],
+        // The next place.
+        (23, _) => &[1],
+        // Of an empty list, the place where an item would be, and the next place.
+        (27 | 28, [_, 0, _, first, _]) if *first > 0 => &[3, 4],
+        _ => &[],
+    }
+}
+
+/// What the crate must answer, by the frozen answer.
+pub fn expected(function: u8, answer: &str) -> Numbers {
+    if let Some(number) = answer.strip_prefix("refused ") {
+        return Err(Error::of(number.parse().unwrap()).unwrap());
+    }
+    let numbers: Vec<u64> = answer.split(' ').map(|word| word.parse().unwrap()).collect();
+    let hidden = hidden(function, &numbers);
+    Ok((0..numbers.len()).filter(|i| !hidden.contains(i)).map(|i| numbers[i]).collect())
+}
+
+/// Arguments are taken and handed over in the order of the table.
+pub fn answer(mut case: Case) -> Numbers {
+    match case.function {
+        18 => parse(case.input),
+        19 => Ok(vec![Handshake::measure_size(case.input)? as u64]),
+        20 => parse_peer_entry(case.size(), case.input),
+        22 => feature_by_index(case.size(), case.size(), case.input),
+        23 => validate_peer(case.network(), case.input),
+        24 => validate_entry(case.size(), case.network(), case.input),
+        25 => rest_api_url(case.size(), case.input),
+        26 => frame(case.size(), case.network(), case.input),
+        27 => message(case.size(), case.network(), case.word() as u8, case.input),
+        28 => message(case.size(), case.network(), MessageCode::PEERS, case.input),
+        29 => entry_by_index(case.size(), case.size(), case.input),
+        30 => id_by_index(case.size(), case.input),
+        32 => payload_by_index(case.size(), case.input),
+        other => panic!("function {other} is no reader of the crate"),
+    }
+}
+
+fn parse(bytes: &[u8]) -> Numbers {
+    let handshake = Handshake::parse(bytes)?;
+    Ok(entry_numbers(bytes, handshake.timestamp, handshake.entry))
+}
+
+fn parse_peer_entry(at: usize, bytes: &[u8]) -> Numbers {
+    Ok(entry_numbers(bytes, 0, Entry::parse(bytes, at)?))
+}
+
+fn feature_by_index(at: usize, index: usize, bytes: &[u8]) -> Numbers {
+    let entry = Entry::parse(bytes, at)?;
+    let feature = entry.features().nth(index).ok_or(Error::Outside)?;
+    let [start, length] = span(bytes, feature.body);
+    Ok(vec![feature.id.into(), start, length, start + length])
+}
+
+fn validate_peer(network: Network, bytes: &[u8]) -> Numbers {
+    Ok(vec![Handshake::validate_peer(bytes, network)?.number().into()])
+}
+
+fn validate_entry(at: usize, network: Network, bytes: &[u8]) -> Numbers {
+    let entry = Entry::parse(bytes, at)?;
+    Ok(vec![entry.verdict(network).number().into(), entry.end() as u64])
+}
+
+fn rest_api_url(at: usize, bytes: &[u8]) -> Numbers {
+    let entry = Entry::parse(bytes, at)?;
+    let Some(url) = entry.rest_api_url() else { return Ok(vec![0, 0, 0, entry.end() as u64]) };
+    let [start, length] = span(bytes, url.as_bytes());
+    Ok(vec![1, start, length, entry.end() as u64])
+}
+
+fn frame(at: usize, network: Network, bytes: &[u8]) -> Numbers {
+    let frame = decode(bytes, network, at)?;
+    let [start, length] = span(bytes, frame.body);
+    Ok(vec![frame.code.into(), start, length, frame.end as u64])
+}
+
+/// A number that the message does not have is 0, and GetPeers has none.
+fn message(cap: usize, network: Network, code: u8, body: &[u8]) -> Numbers {
+    Ok(match Message::from_frame(code, body, cap, network)? {
+        Message::GetPeers => vec![0, 0, 0, 0, 0],
+        Message::Peers { bogus, entries } => {
+            let start = |entry: &Entry| place(body, entry.agent().as_bytes()) - 1;
+            list(0, bogus, entries.map(|entry| start(&entry)..entry.end() as u64))
+        }
+        Message::ModifierRequest { modifier_type, ids } | Message::Inv { modifier_type, ids } => {
+            list(modifier_type, 0, ids.iter().map(|id| place(body, id)..end(body, id)))
+        }
+        Message::ModifierResponse { modifier_type, payloads } => {
+            list(modifier_type, 0, payloads.map(|(id, bytes)| place(body, id)..end(body, bytes)))
+        }
+        Message::SyncInfo(held) | Message::Unknown(held) => vec![0, 0, 0, 0, end(body, held)],
+    })
+}
+
+/// Type byte, count and bogus count; where there are items, the first one's start and the last
+/// one's end.
+fn list(kind: u8, bogus: usize, items: impl ExactSizeIterator<Item = Range<u64>>) -> Vec<u64> {
+    let mut numbers = vec![kind.into(), items.len() as u64, bogus as u64];
+    let items: Vec<_> = items.collect();
+    if let ([first, ..], [.., last]) = (&items[..], &items[..]) {
+        numbers.extend([first.start, last.end]);
+    }
+    numbers
+}
+
+fn entry_by_index(cap: usize, index: usize, body: &[u8]) -> Numbers {
+    let message = Message::from_frame(MessageCode::PEERS, body, cap, Network::Mainnet)?;
+    let Message::Peers { mut entries, .. } = message else { panic!("{message:?}") };
+    let entry = entries.nth(index).ok_or(Error::Outside)?;
+    Ok(entry_numbers(body, 0, entry))
+}
+
+/// The cap is for Peers alone, the network for bogus addresses.
+fn id_by_index(index: usize, body: &[u8]) -> Numbers {
+    let message = Message::from_frame(MessageCode::INV, body, 0, Network::Mainnet)?;
+    let Message::Inv { ids, .. } = message else { panic!("{message:?}") };
+    let id = ids.get(index).ok_or(Error::Outside)?;
+    Ok(vec![place(body, id)])
+}
+
+fn payload_by_index(index: usize, body: &[u8]) -> Numbers {
+    let message = Message::from_frame(MessageCode::MODIFIER_RESPONSE, body, 0, Network::Mainnet)?;
+    let Message::ModifierResponse { mut payloads, .. } = message else { panic!("{message:?}") };
+    let (id, bytes) = payloads.nth(index).ok_or(Error::Outside)?;
+    let [start, length] = span(body, bytes);
+    Ok(vec![place(body, id), start, length, start + length])
+}
+
+fn entry_numbers(bytes: &[u8], timestamp: u64, entry: Entry) -> Vec<u64> {
+    let mut numbers = vec![timestamp];
+    numbers.extend(span(bytes, entry.agent().as_bytes()));
+    numbers.extend([entry.version.major, entry.version.minor, entry.version.patch].map(u64::from));
+    numbers.extend(span(bytes, entry.name().as_bytes()));
+    numbers.extend(address_numbers(entry.address()));
+    numbers.extend([entry.features().len() as u64, entry.end() as u64]);
+    numbers
+}
+
+/// Kind, high and low half, port.
+fn address_numbers(address: Option<SocketAddr>) -> [u64; 4] {
+    let Some(address) = address else { return [0; 4] };
+    let port = address.port().into();
+    match address.ip() {
+        IpAddr::V4(ip) => [4, ip.to_bits().into(), 0, port],
+        IpAddr::V6(ip) => [6, (ip.to_bits() >> 64) as u64, ip.to_bits() as u64, port],
+    }
+}
+
+/// Where a part that was lent out of the bytes begins in them.
+fn place(bytes: &[u8], part: &[u8]) -> u64 {
+    (part.as_ptr().addr() - bytes.as_ptr().addr()) as u64
+}
+
+fn end(bytes: &[u8], part: &[u8]) -> u64 {
+    place(bytes, part) + part.len() as u64
+}
+
+/// Place and length.
+fn span(bytes: &[u8], part: &[u8]) -> [u64; 2] {
+    [place(bytes, part), part.len() as u64]
+}
