@@ -1,6 +1,6 @@
 -- An array that a loop fills from the front: the first i elements of a list, and then zeros. Assumes nothing.
 use mathlib.Core.Path.{_≡_, refl, ap, sym, _∙_}
-use mathlib.Core.List.{List, [], _∷_, _++_}
+use mathlib.Core.List.{List, [], _∷_, _++_, append-nil}
 use Prim.Native.Nat.{ℕ, suc, _+_, _-_, _<_, _≤_}
 use native.Mathlib.Numerals.{add-one}
 use native.Mathlib.Nat.{suc-add, zero-add}
@@ -28,10 +28,6 @@ filled-padded n u i e h =
     ap (λ (j : ℕ). take j u ++ replicate (n - i) 0) e ∙ ap (_++ replicate (n - i) 0) (take-length u)
     ∙ ap (u ++_) (sym (take-at (replicate (n - i) 0) (replicate i 0) (n - i) (length-replicate (n - i) 0)) ∙ ap (take (n - i)) (sym z))
     ∙ sym (take-append-add u (replicate n 0) (n - i)) ∙ ap (λ (j : ℕ). take j (u ++ replicate n 0)) (sym k)
-
-append-nil : (u : List ℕ) → u ++ [] ≡ u
-append-nil [] = refl
-append-nil (x ∷ u) = ap (λ (r : List ℕ). x ∷ r) (append-nil u)
 
 -- the first n elements of u, when all are there
 pub filled-all : (n : ℕ) (u : List ℕ) (i : ℕ) → i ≡ n → filled n u i ≡ take n u

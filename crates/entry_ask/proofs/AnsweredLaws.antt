@@ -3,12 +3,11 @@ use Prim.Native.Nat.{ℕ, zero, suc, _+_, _/_, _≤_, _<_, min}
 use native.Mathlib.Omega.{arith}
 use mathlib.Core.Bool.{Bool, true, false}
 use mathlib.Core.List.{List, [], flatMap}
-use mathlib.Core.Logic.{⊎-elim}
 use mathlib.Core.Path.{_≡_, refl, sym, _∙_}
 use lib.ListN.{length}
 use borrow.Author.Tests.{le-leb, lt-ltb, le-ltb}
 use Rattle.wire.specs.Bytes.{every}
-use Rattle.wire.specs.Numbers.{lt-or-ge}
+use Rattle.wire.specs.UpTo.{UpTo}
 use Rattle.wire.specs.Output.{asked}
 use Rattle.wire.specs.declared.Written.the-variants.{To}
 use Rattle.vlq.specs.Vlq.{limit}
@@ -17,7 +16,7 @@ use Rattle.handshake.specs.declared.EntryRow.{EntryRow}
 use Rattle.handshake.specs.Value.{entryBytes, shortStrings, utf8Strings, entriesAsked}
 use Rattle.handshake.specs.Tables.{Lent, lent, rows, featureRow, entryRow, entryRows, featureRows, bytesAt, featureOf, entryOf, entriesOf, wholeRows, featureNumbers, entryNumbers, tablesWhole, inside, featureInside, entryInside}
 use Rattle.entry_ask.specs.Asked.{featureHolds, rowHolds, numbersWhole, entriesSaid, rowSaid, partsSaid}
-use Rattle.entry_ask.specs.Answered.{UpTo, FeatureAnswered, Answered, TablesAnswered, Fits}
+use Rattle.entry_ask.specs.Answered.{FeatureAnswered, Answered, TablesAnswered, Fits}
 use Rattle.entry_ask.specs.AskedLaws.{own-utf8, few-count, rows-numbers, rows-inside, rows-short, rows-utf8, rows-count, rows-lengths, features-numbers, features-inside, features-lengths, row-parts}
 use Rattle.entry_ask.specs.LengthLaws.{length-bytesAt-le}
 use Rattle.entry_ask.specs.declared.About.{About}
@@ -26,22 +25,6 @@ use Rattle.entry_ask.specs.declared.About.the-variants.{Numbers, Inside,
 -- of an answer "no" nothing is told
 pub untold : {A : Type 0} → false ≡ true → A
 untold e = let z : _≡_ {A = ℕ} 0 1 = cc in absurd (omega arith)
-
--- ---- one number after the other
-
-module _ (P : ℕ → Type 0) where
-  pub upto-start : (a b : ℕ) → b ≤ a → UpTo P a b
-  upto-start a b h = record { each = λ (i : ℕ) (g : a ≤ i) (l : i < b). absurd (omega arith) }
-
-  pub upto-next : (a b d : ℕ) → UpTo P a b → P b → d ≡ b + 1 → UpTo P a d
-  upto-next a b d u p e =
-      record {
-        each = λ (i : ℕ) (g : a ≤ i) (l : i < d).
-            ⊎-elim (λ (m : i < b). u .each i g m) (λ (m : b ≤ i). let q : i ≡ b = omega arith in rw q p) (lt-or-ge i b);
-      }
-
-  pub upto-end : (a b d : ℕ) → UpTo P a b → d ≤ b → UpTo P a d
-  upto-end a b d u e = record { each = λ (i : ℕ) (g : a ≤ i) (l : i < d). u .each i g (omega arith) }
 
 every-of : {A : Type 0} (test : A → Bool) (f : ℕ → A) (i n : ℕ) → ((k : ℕ) → i ≤ k → k < i + n → test (f k) ≡ true) → every test (rows f i n) ≡ true
 unfolding every rows

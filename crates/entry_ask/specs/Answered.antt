@@ -11,10 +11,6 @@ use Rattle.handshake.specs.Tables.{Lent, entryRows, tablesWhole}
 use Rattle.entry_ask.specs.Asked.{featureHolds, rowHolds, numbersWhole}
 use Rattle.entry_ask.specs.declared.About.{About}
 
--- P of each number from a on and below b
-pub record UpTo (P : ℕ → Type 0) (a b : ℕ) : Type 0 where
-  pub each : (i : ℕ) → a ≤ i → i < b → P i
-
 pub record FeatureAnswered (buffer : List ℕ) (f : FeatureRow) : Type 0 where
   pub holds : (about : About) → featureHolds about buffer f ≡ true
 

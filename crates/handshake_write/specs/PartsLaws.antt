@@ -11,8 +11,8 @@ use borrow.Author.Tests.{le-leb, lt-leb, leb-true}
 use Rattle.wire.specs.Bytes.{bigEndianBytes, every}
 use Rattle.wire.specs.BytesLaws.{and-true, length-bigEndianBytes}
 use Rattle.wire.specs.Output.{put, Question, ask, asked, written, outputAfter}
-use Rattle.wire.specs.OutputLaws.{Wrote, AllHold, length-put, put-here, written-to, written-accepted, wrote-length, wrote-to, wrote-checked, wrote-refused}
-use Rattle.wire.specs.StandingLaws.{put-standing, put-over, after-put, after-refused}
+use Rattle.wire.specs.OutputLaws.{Wrote, AllHold, written-to, written-accepted, wrote-length, wrote-to, wrote-checked, wrote-refused}
+use Rattle.wire.specs.StandingLaws.{put-behind, after-put, after-refused}
 use Rattle.wire.specs.declared.Written.{Written}
 use Rattle.wire.specs.declared.Written.the-variants.{To, Refused}
 use Rattle.utf8.specs.Utf8.{utf8}
@@ -96,13 +96,6 @@ module _ (before after : List Question) (out : List ℕ) (at m : ℕ) (a b : Lis
   unfolding written
   written-behind h = rw (end-behind, le-leb m (length out) h, le-leb at (length out) (omega (arith, p)))
 
-  put-behind : m + length b ≤ length out → put (put out m b) at a ≡ put out at (a ++ b)
-  put-behind h =
-      let mid : List ℕ = put out m b in
-      sym (put-standing mid at a m (length b) p (omega (arith, length-put out m b)))
-      ∙ ap (λ (x : List ℕ). put mid at (a ++ x)) (put-here out m b h)
-      ∙ put-over out at a b m p h
-
   -- the writer of b was called, said r and left mid
   module _ {r : Written} {mid : List ℕ} (h : m ≤ length out) (says : r ≡ written before after out m b) (left : mid ≡ outputAfter r out m b) where
     pub behind-stored : {e : ℕ} {x : Written} {last : List ℕ} → r ≡ To e → x ≡ written [] [] mid at a → last ≡ outputAfter x mid at a
@@ -112,7 +105,7 @@ module _ (before after : List Question) (out : List ℕ) (at m : ℕ) (a b : Lis
         let room = written-accepted before after out m b e (sym says ∙ q) .room in
         let front = wrote-checked [] [] mid at a say leave tt tt (omega (arith, p, wrote-length w)) in (
           says ∙ written-behind h,
-          after-put out at (a ++ b) q (front .bytes ∙ ap (λ (o : List ℕ). put o at a) (w .bytes) ∙ put-behind room),
+          after-put out at (a ++ b) q (front .bytes ∙ ap (λ (o : List ℕ). put o at a) (w .bytes) ∙ put-behind out at a b m p room),
         )
 
     pub behind-refused : {e : ℕ} → r ≡ Refused e → (r ≡ written before after out at (a ++ b)) × (mid ≡ outputAfter r out at (a ++ b))

@@ -14,8 +14,8 @@ use Rattle.wire.specs.Numbers.{lt-or-ge}
 use Rattle.wire.specs.declared.Written.{Written}
 use Rattle.wire.specs.declared.Written.the-variants.{To, Refused}
 use Rattle.wire.specs.Output.{put, ask, asked, written, outputAfter}
-use Rattle.wire.specs.OutputLaws.{Wrote, Accepted, length-put, put-here, wrote-checked, written-accepted}
-use Rattle.wire.specs.StandingLaws.{put-standing, put-over, after-put}
+use Rattle.wire.specs.OutputLaws.{Wrote, Accepted, length-put, wrote-checked, written-accepted}
+use Rattle.wire.specs.StandingLaws.{after-put, put-behind}
 use Rattle.vlq.specs.Vlq.{limit, vlqBytes}
 use Rattle.vlq.specs.VlqLaws.{vlq-pos}
 use Rattle.types.specs.declared.Network.{Network}
@@ -143,16 +143,6 @@ not-started network cap l out at bs (Refused m) says start = refl
 
 -- ---- what was stored
 
--- bytes b, and then a before them
-put-behind : (out : List ℕ) (at : ℕ) (a b : List ℕ) → at + length a + length b ≤ length out → put (put out (at + length a) b) at a ≡ put out at (a ++ b)
-put-behind out at a b h =
-    let m = at + length a in
-    let mid : List ℕ = put out m b in
-    let l : length mid ≡ length out = length-put out m b in
-    sym (put-standing mid at a m (length b) refl (omega arith))
-    ∙ ap (λ (x : List ℕ). put mid at (a ++ x)) (put-here out m b h)
-    ∙ put-over out at a b m refl h
-
 -- the entries were stored where they stand in the frame
 module _ (network : Network) (l : Lent) (out : List ℕ) (at : ℕ) {r : Written} {e : ℕ} {one : List ℕ}
     (says : r ≡ rowsWritten l (length (vlqBytes (length (l .entries) / 12))) out (at + 13 + length (vlqBytes (length (l .entries) / 12))))
@@ -188,7 +178,7 @@ module _ (network : Network) (l : Lent) (out : List ℕ) (at : ℕ) {r : Written
           let w = wrote-checked [] [] one (at + 13) count says2 left2 tt tt (omega (arith, yes .room)) in
           record {
             end = refl;
-            bytes = w .bytes ∙ ap (λ (o : List ℕ). put o (at + 13) count) q ∙ put-behind out (at + 13) count rows (yes .room) ∙ ap (put out (at + 13)) (sym (peers-parts l));
+            bytes = w .bytes ∙ ap (λ (o : List ℕ). put o (at + 13) count) q ∙ put-behind out (at + 13) count rows (at + 13 + length count) refl (yes .room) ∙ ap (put out (at + 13)) (sym (peers-parts l));
           }
 
       -- and then the frame was closed around both

@@ -1,6 +1,6 @@
 pub mod Utf8
 pub mod Utf8Laws
-pub mod Ascii
+pub mod AsciiLaws
 pub mod Scalars
 pub mod ScalarSteps
 pub mod ScalarLaws

@@ -1,9 +1,9 @@
 // UTF-8 (RFC 3629), as `String::from_utf8` tests it.
 ghost use mathlib.Core.Path.{_≡_};
 ghost use Prim.Native.Nat.{_≤_};
-ghost use lib.ListN.{length};
+ghost use lib.ListN.{length, getD};
+ghost use Rattle.wire.specs.UpTo.{UpTo};
 ghost use Rattle.utf8.specs.Utf8.{leadOf, utf8};
-ghost use Rattle.utf8.specs.Ascii.{AtMost};
 
 // What a lead byte says: how many followers it has, and the bounds of the first.
 pub enum Lead {
@@ -40,7 +40,7 @@ pub fn is_utf8(s: &[u8]) -> bool
 
 // A number that no byte of s is above.
 fn highest(s: &[u8]) -> u8
-    ensures { λ r. ⌜ AtMost (now (s .entry)) (length (now (s .entry))) r ⌝ }
+    ensures { λ r. ⌜ UpTo (λ i. getD (now (s .entry)) i 0 ≤ r) 0 (length (now (s .entry))) ⌝ }
 {
     let mut m: u8 = 0;
     let mut at = 0;

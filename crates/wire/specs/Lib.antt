@@ -14,4 +14,6 @@ pub mod ReadsBack
 pub mod ReadsBackLaws
 pub mod ListLaws
 pub mod Numbers
+pub mod UpTo
+pub mod UpToLaws
 pub mod Cases

@@ -8,7 +8,7 @@ use lib.Seq.{take-take, take-add}
 use Rattle.wire.specs.declared.Written.{Written}
 use Rattle.wire.specs.declared.Written.the-variants.{To, Refused}
 use Rattle.wire.specs.Output.{put, outputAfter}
-use Rattle.wire.specs.OutputLaws.{Wrote, length-put, put-put, put-eq, put-before, put-after}
+use Rattle.wire.specs.OutputLaws.{Wrote, length-put, put-put, put-eq, put-before, put-here, put-after}
 use Rattle.wire.specs.ReaderLaws.{length-part}
 
 -- storing what stands there changes nothing
@@ -44,6 +44,14 @@ put-over out at a b m p h =
     ∙ ap (λ (x : List ℕ). x ++ (a ++ b) ++ drop (at + length (a ++ b)) mid) before
     ∙ ap (λ (x : List ℕ). take at out ++ (a ++ b) ++ x) after
     ∙ sym (put-eq out at (a ++ b) (omega arith))
+
+-- bytes b, and then a before them
+pub put-behind : (out : List ℕ) (at : ℕ) (a b : List ℕ) (m : ℕ) → m ≡ at + length a → m + length b ≤ length out → put (put out m b) at a ≡ put out at (a ++ b)
+put-behind out at a b m p h =
+    let mid : List ℕ = put out m b in
+    sym (put-standing mid at a m (length b) p (omega (arith, length-put out m b)))
+    ∙ ap (λ (x : List ℕ). put mid at (a ++ x)) (put-here out m b h)
+    ∙ put-over out at a b m p h
 
 -- ---- the output after a writer that accepted, and after one that refused
 

@@ -5,8 +5,10 @@ use denote.Ref.{now}
 use borrow.Author.Needs.{needs}
 use borrow.Author.Tests.{not-false}
 use Rattle.handshake.specs.Tables.{featureRow}
-use Rattle.entry_ask.specs.Answered.{UpTo, FeatureAnswered}
-use Rattle.entry_ask.proofs.AnsweredLaws.{untold, upto-start, upto-next, upto-end, feature-answered}
+use Rattle.wire.specs.UpTo.{UpTo}
+use Rattle.wire.specs.UpToLaws.{upto-start, upto-next, upto-end}
+use Rattle.entry_ask.specs.Answered.{FeatureAnswered}
+use Rattle.entry_ask.proofs.AnsweredLaws.{untold, feature-answered}
 use Rattle.entry_ask.proofs.features_ready.Statement.{statement}
 use Rattle.entry_ask.proofs.features_ready.Tie as tie
 

@@ -6,8 +6,10 @@ use lib.ListN.{length}
 use borrow.Author.Needs.{needs}
 use borrow.Author.Tests.{not-false}
 use Rattle.handshake.specs.Tables.{entryRow}
-use Rattle.entry_ask.specs.Answered.{UpTo, Answered}
-use Rattle.entry_ask.proofs.AnsweredLaws.{untold, upto-start, upto-next, upto-end}
+use Rattle.wire.specs.UpTo.{UpTo}
+use Rattle.wire.specs.UpToLaws.{upto-start, upto-next, upto-end}
+use Rattle.entry_ask.specs.Answered.{Answered}
+use Rattle.entry_ask.proofs.AnsweredLaws.{untold}
 use Rattle.entry_ask.proofs.rows_ready.Statement.{statement}
 use Rattle.entry_ask.proofs.rows_ready.Tie as tie
 

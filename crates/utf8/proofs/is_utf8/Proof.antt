@@ -1,7 +1,7 @@
 -- `utf8::is_utf8` meets its contract: bytes up to 0x7F stand alone.
 use mathlib.Core.Path.{sym}
 use borrow.Author.Needs.{needs}
-use Rattle.utf8.specs.Ascii.{ascii-utf8}
+use Rattle.utf8.specs.AsciiLaws.{ascii-utf8}
 use Rattle.utf8.proofs.is_utf8.Statement.{statement}
 use Rattle.utf8.proofs.is_utf8.Tie as tie
 

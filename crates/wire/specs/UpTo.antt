@@ -1,0 +1,6 @@
+-- What holds of each number of a range.
+use Prim.Native.Nat.{ℕ, _≤_, _<_}
+
+-- P of each number from a on and below b
+pub record UpTo (P : ℕ → Type 0) (a b : ℕ) : Type 0 where
+  pub each : (i : ℕ) → a ≤ i → i < b → P i
