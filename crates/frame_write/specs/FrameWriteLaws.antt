@@ -118,9 +118,11 @@ module _ (network : Network) (code : ℕ) (out : List ℕ) (at : ℕ) (body : Li
             let body : List ℕ = b ∷ bs in
             let before : List ℕ = headBytes network code (length body) ++ check body in
             let parts : frameBytes network code body ≡ before ++ body = frame-parts network code body (omega arith) in
+            let long : length (before ++ body) ≡ 13 + length body =
+            omega (arith, length-before network code (length body) body, length-append before body) in
             q ∙ ap (λ (o : List ℕ). put o at (frameBytes network code body)) p ∙ ap (put (put out (at + 13) body) at) parts
-            ∙ put-over out at before body (at + 13) (omega (arith, length-before network code (length body) body))
-            (omega (arith, frameLength-body (length body) (omega arith)))
+            ∙ put-over out at (before ++ body) body (at + 13) (omega arith) (omega (arith, long))
+            (omega (arith, long, frameLength-body (length body) (omega arith)))
             ∙ ap (put out at) (sym parts)
 
     -- and then the frame around it

@@ -3,7 +3,8 @@
 ghost use mathlib.Core.Path.{_≡_};
 ghost use mathlib.Core.List.{[], _∷_};
 ghost use Prim.Native.Nat.{_+_, _≤_};
-ghost use lib.ListN.{length};
+ghost use lib.Dec.{leb};
+ghost use lib.ListN.{length, take, drop};
 ghost use Rattle.wire.specs.Output.{written, outputAfter};
 ghost use Rattle.wire.specs.OutputLaws.{Wrote};
 ghost use Rattle.vlq.specs.Vlq.{vlqBytes};
@@ -24,11 +25,14 @@ pub fn vlq_len(v: u64) -> usize
     n
 }
 
-// The shortest VLQ of value.
+// The shortest VLQ of value. No VLQ has more than ten bytes.
 pub fn write_vlq(out: &mut [u8], at: usize, value: u64) -> Written
     ensures { λ r. ⌜ r ≡ written [] [] (now (out .entry)) at (vlqBytes value) ⌝ }
     ensures { λ r. ⌜ now (out .exit) ≡ outputAfter r (now (out .entry)) at (vlqBytes value) ⌝ }
 {
+    if has_room(out.len(), at, 10) {
+        return Written::To(put_vlq(out, at, value));
+    }
     let answer = ask_room(out.len(), at, vlq_len(value));
     if let Written::To(_) = answer {
         put_vlq(out, at, value);
@@ -70,6 +74,16 @@ pub fn write_byte(out: &mut [u8], at: usize, b: u8) -> Written
         out[at] = b;
     }
     answer
+}
+
+// Has an output of len bytes n bytes from the place on?
+pub fn has_room(len: usize, at: usize, n: usize) -> bool
+    ensures { λ r. ⌜ r ≡ leb (at + n) len ⌝ }
+{
+    if len < at {
+        return false;
+    }
+    n <= len - at
 }
 
 // What a writer of n bytes that asks nothing else says of an output of len bytes.
@@ -117,8 +131,49 @@ fn put_vlq(out: &mut [u8], at: usize, value: u64) -> usize
     o + 1
 }
 
-// Stores all bytes of s and gives the place after them.
+// Stores all bytes of s, eight at a time, and gives the place after them.
 fn put_part(out: &mut [u8], at: usize, s: &[u8]) -> usize
+    requires { ⌜ at + length (now s) ≤ length (now out) ⌝ }
+    ensures { λ r. ⌜ Wrote (now (out .entry)) at (now (s .entry)) r (now (out .exit)) ⌝ }
+{
+    if s.len() < 8 {
+        return put_bytes(out, at, s);
+    }
+    put_blocks(out, at, s);
+    let last = s.len() - 8;
+    let block = eight_at(s, last);
+    put_bytes(out, at + last, &block)
+}
+
+// Stores the bytes of s up to its last eight or further, and gives how many.
+fn put_blocks(out: &mut [u8], at: usize, s: &[u8]) -> usize
+    requires { ⌜ at + length (now s) ≤ length (now out) ⌝ }
+    ensures { λ r. ⌜ (length (now (s .entry)) ≤ r + 8) × (r ≤ length (now (s .entry))) × Wrote (now (out .entry)) at (take r (now (s .entry))) (at + r) (now (out .exit)) ⌝ }
+{
+    let n = s.len();
+    let mut i: usize = 0;
+    while 8 < n - i {
+        let block = eight_at(s, i);
+        put_bytes(out, at + i, &block);
+        i += 8;
+    }
+    i
+}
+
+// Eight bytes from a place on. By value, so that the compiler copies them at once.
+fn eight_at(s: &[u8], at: usize) -> [u8; 8]
+    requires { ⌜ at + 8 ≤ length (now s) ⌝ }
+    ensures { λ r. ⌜ r ≡ take 8 (drop at (now (s .entry))) ⌝ }
+{
+    let mut block = [0u8; 8];
+    for i in 0..8 {
+        block[i] = s[at + i];
+    }
+    block
+}
+
+// Stores all bytes of s, one by one, and gives the place after them.
+fn put_bytes(out: &mut [u8], at: usize, s: &[u8]) -> usize
     requires { ⌜ at + length (now s) ≤ length (now out) ⌝ }
     ensures { λ r. ⌜ Wrote (now (out .entry)) at (now (s .entry)) r (now (out .exit)) ⌝ }
 {

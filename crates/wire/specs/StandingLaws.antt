@@ -1,10 +1,10 @@
 -- Laws of `put` where bytes stand in the output already, and the output after a writer that accepted or refused.
-use Prim.Native.Nat.{ℕ, _+_, _≤_}
+use Prim.Native.Nat.{ℕ, _+_, _-_, _≤_}
 use native.Mathlib.Omega.{arith}
 use mathlib.Core.List.{List, [], _++_}
 use mathlib.Core.Path.{_≡_, refl, sym, ap, _∙_}
-use lib.ListN.{length, take, drop, length-append, take-append-drop}
-use lib.Seq.{take-take, take-add}
+use lib.ListN.{length, take, drop, length-append, length-drop, take-append-drop}
+use lib.Seq.{take-take, take-add, drop-drop, length-take-le}
 use Rattle.wire.specs.declared.Written.{Written}
 use Rattle.wire.specs.declared.Written.the-variants.{To, Refused}
 use Rattle.wire.specs.Output.{put, outputAfter}
@@ -30,20 +30,25 @@ put-standing out at a m n p h =
     ∙ ap (λ (l : List ℕ). put mid m (take n l)) (sym kept)
     ∙ put-again mid m n (omega (arith, length-put out at a))
 
--- bytes b, and then a before them and b once more
-pub put-over : (out : List ℕ) (at : ℕ) (a b : List ℕ) (m : ℕ) → m ≡ at + length a → m + length b ≤ length out → put (put out m b) at (a ++ b) ≡ put out at (a ++ b)
-put-over out at a b m p h =
+-- a write over all that an earlier one wrote
+pub put-over : (out : List ℕ) (at : ℕ) (w b : List ℕ) (m : ℕ) → at ≤ m → m + length b ≤ at + length w → at + length w ≤ length out
+    → put (put out m b) at w ≡ put out at w
+put-over out at w b m p q h =
     let mid : List ℕ = put out m b in
+    let e : ℕ = at + length w in
+    let k : ℕ = e - (m + length b) in
     let l : length mid ≡ length out = length-put out m b in
-    let e : at + length (a ++ b) ≡ m + length b = omega (arith, length-append a b) in
+    let r : m + length b ≤ length out = omega arith in
+    let n : m + length b + k ≡ e = omega arith in
     let before : take at mid ≡ take at out =
-    sym (take-take at m mid (omega arith)) ∙ ap (take at) (put-before out m b h) ∙ take-take at m out (omega arith) in
-    let after : drop (at + length (a ++ b)) mid ≡ drop (at + length (a ++ b)) out =
-    ap (λ (k : ℕ). drop k mid) e ∙ put-after out m b h ∙ ap (λ (k : ℕ). drop k out) (sym e) in
-    put-eq mid at (a ++ b) (omega arith)
-    ∙ ap (λ (x : List ℕ). x ++ (a ++ b) ++ drop (at + length (a ++ b)) mid) before
-    ∙ ap (λ (x : List ℕ). take at out ++ (a ++ b) ++ x) after
-    ∙ sym (put-eq out at (a ++ b) (omega arith))
+    sym (take-take at m mid p) ∙ ap (take at) (put-before out m b r) ∙ take-take at m out p in
+    let after : drop e mid ≡ drop e out =
+    ap (λ (i : ℕ). drop i mid) (sym n) ∙ sym (drop-drop k (m + length b) mid) ∙ ap (drop k) (put-after out m b r)
+    ∙ drop-drop k (m + length b) out ∙ ap (λ (i : ℕ). drop i out) n in
+    put-eq mid at w (omega arith)
+    ∙ ap (λ (x : List ℕ). x ++ w ++ drop e mid) before
+    ∙ ap (λ (x : List ℕ). take at out ++ w ++ x) after
+    ∙ sym (put-eq out at w h)
 
 -- bytes b, and then a before them
 pub put-behind : (out : List ℕ) (at : ℕ) (a b : List ℕ) (m : ℕ) → m ≡ at + length a → m + length b ≤ length out → put (put out m b) at a ≡ put out at (a ++ b)
@@ -51,7 +56,31 @@ put-behind out at a b m p h =
     let mid : List ℕ = put out m b in
     sym (put-standing mid at a m (length b) p (omega (arith, length-put out m b)))
     ∙ ap (λ (x : List ℕ). put mid at (a ++ x)) (put-here out m b h)
-    ∙ put-over out at a b m p h
+    ∙ put-over out at (a ++ b) b m (omega arith) (omega (arith, length-append a b)) (omega (arith, length-append a b))
+
+-- the first i bytes of w, and then all from the j-th on, some of them once more
+pub wrote-over : {out : List ℕ} {at : ℕ} {w : List ℕ} {m : ℕ} {mid : List ℕ} {e : ℕ} {last : List ℕ} (i j : ℕ) → j ≤ i → i ≤ length w → at + length w ≤ length out
+    → Wrote out at (take i w) m mid → Wrote mid (at + j) (drop j w) e last → Wrote out at w e last
+wrote-over {out} {at} {w} {m} {mid} {e} {last} i j p q h v u =
+    let a : List ℕ = take j w in
+    let b : List ℕ = drop j w in
+    let x : List ℕ = take (i - j) b in
+    let la : length a ≡ j = length-take-le j w (omega arith) in
+    let lb : length b ≡ length w - j = length-drop j w in
+    let lx : length x ≡ i - j = length-take-le (i - j) b (omega arith) in
+    let n : j + (i - j) ≡ i = omega arith in
+    let one : List ℕ = put out at a in
+    let g : at + length a ≡ at + j = omega arith in
+    let split : take i w ≡ a ++ x = ap (λ (k : ℕ). take k w) (sym n) ∙ take-add j (i - j) w in
+    let first : mid ≡ put one (at + j) x =
+    v .bytes ∙ ap (put out at) split ∙ sym (put-put a out at x) ∙ ap (λ (k : ℕ). put one k x) g in
+    record {
+      end = omega (arith, u .end);
+      bytes =
+          u .bytes ∙ ap (λ (o : List ℕ). put o (at + j) b) first
+          ∙ put-over one (at + j) b x (at + j) (omega arith) (omega arith) (omega (arith, length-put out at a))
+          ∙ ap (λ (k : ℕ). put one k b) (sym g) ∙ put-put a out at b ∙ ap (put out at) (take-append-drop j w);
+    }
 
 -- ---- the output after a writer that accepted, and after one that refused
 

@@ -1,72 +1,44 @@
--- `vlq_write::put_part` meets its contract. The loop has written the first i bytes of s; the rest of s is still to be written.
-use Prim.Native.Nat.{ℕ, _+_, _-_, _≤_, _<_}
+-- `vlq_write::put_part` meets its contract: the last eight bytes are stored over what the blocks before left of them.
+use Prim.Native.Nat.{ℕ, _+_, _-_, _≤_}
 use native.Mathlib.Omega.{arith}
-use native.Mathlib.Numerals.{add-one}
-use mathlib.Core.List.{List, [], _∷_, _++_}
-use mathlib.Core.Path.{_≡_}
-use lib.ListN.{length, getD, drop, length-drop, drop-of-length-le}
-use lib.Seq.{drop-cons}
-use Rattle.wire.specs.OutputLaws.{Writing, writing-start, writing-turn, writing-end, writing-room, wrote-byte}
+use mathlib.Core.List.{List}
+use mathlib.Core.Path.{_≡_, _∙_}
+use denote.Ref.{now}
+use borrow.Author.Needs.{needs}
+use lib.ListN.{length, take, drop, length-drop}
+use lib.Seq.{take-all}
+use Rattle.wire.specs.OutputLaws.{Wrote}
+use Rattle.wire.specs.StandingLaws.{wrote-over}
 use Rattle.vlq_write.proofs.put_part.Statement.{statement}
 use Rattle.vlq_write.proofs.put_part.Tie as tie
 
--- what is left begins with the byte at i
-next : (s : List ℕ) (i : ℕ) → i < length s → drop i s ≡ (getD s i 0 ∷ []) ++ drop (i + 1) s
-next s i h = rw add-one (drop-cons s i 0 h)
+last-eight : {out : List ℕ} {at m : ℕ} {mid b : List ℕ} {e : ℕ} {last : List ℕ} (s : List ℕ) (i : ℕ) → 8 ≤ length s → length s ≤ i + 8 → i ≤ length s
+    → at + length s ≤ length out → Wrote out at (take i s) m mid → b ≡ take 8 (drop (length s - 8) s) → Wrote mid (at + (length s - 8)) b e last → Wrote out at s e last
+last-eight s i p q r h v x u =
+    let j : ℕ = length s - 8 in
+    let y = x ∙ take-all 8 (drop j s) (omega (arith, length-drop j s)) in
+    wrote-over i j (omega arith) r h v (rw y at u)
 
-abbrev Inv-loop : tie.InvT-loop
-Inv-loop out₀ at s o₀ i₀ out o i = (i ≤ length s) × Writing out₀ at s o out (drop i s)
-
-abbrev μ-loop : tie.MeasureT-loop
-μ-loop out₀ at s o₀ i₀ out o i = length s - i
-
-loop-holds : tie.Need-loop-holds Inv-loop μ-loop
-loop-holds c = (omega arith, writing-start _ _ _)
-
-shared-slice-read-out : tie.Need-shared-slice-read-out Inv-loop μ-loop
-shared-slice-read-out c = omega arith
-
-slice-write-out : tie.Need-slice-write-out Inv-loop μ-loop
-slice-write-out c =
-    let l = c .before .before .loop in
-    let s = c .before .before .before .args .s .now in
-    omega (arith, writing-room (getD s (l .i) 0 ∷ []) _ (next s (l .i) (omega arith)) (l .inv .1) (c .before .before .before .pre))
-
-add-o : tie.Need-add-o Inv-loop μ-loop
-add-o c =
-    let l = c .before .before .loop in
-    omega (arith, l .inv .1 .end, length-drop (l .i) (c .before .before .before .args .s .now))
-
-add-i : tie.Need-add-i Inv-loop μ-loop
-add-i c = omega arith
-
-loop-less : tie.Need-loop-less Inv-loop μ-loop
-loop-less c = omega arith
-
-loop-again : tie.Need-loop-again Inv-loop μ-loop
-loop-again c =
-    let l = c .before .before .loop in
-    let s = c .before .before .before .args .s .now in
-    (omega arith, writing-turn (getD s (l .i) 0 ∷ []) _ (next s (l .i) (omega arith)) (l .inv .1) (wrote-byte (l .out) (l .o) (getD s (l .i) 0)))
-
-same-length : tie.Need-same-length Inv-loop μ-loop
-same-length c = c .before .loop .inv .1 .long
-
-returns : tie.Need-returns Inv-loop μ-loop
-returns c = writing-end (drop-of-length-le (c .before .before .args .s .now) {i = c .before .loop .i} (omega arith)) (c .before .loop .inv .1)
+returns-2 : tie.Need-returns-2
+returns-2 c =
+    let d = c .before .before in
+    let f = d .before .before .before in
+    let g = f .before .before .before in
+    let a = g .before .before .before .before .before .args in
+    last-eight (now (a .s)) (g .put-blocks .result) (omega arith) (g .put-blocks .ensures .0) (g .put-blocks .ensures .1) (omega arith) (g .put-blocks .ensures .2) (f .eight-at .ensures) (d .put-bytes2 .ensures)
 
 pub put-part-spec : {M : Type 1} → statement M
 put-part-spec =
     tie.close
     (tie.spec
-    Inv-loop
-    μ-loop
-    loop-holds
-    shared-slice-read-out
-    slice-write-out
-    add-o
-    add-i
-    loop-less
-    loop-again
-    same-length
-    returns)
+    (λ c κs. search needs)
+    (λ c. search needs)
+    (λ c. search needs)
+    (λ c κs. search needs)
+    (λ c. search needs)
+    (λ c κs. search needs)
+    (λ c. search needs)
+    (λ c. search needs)
+    (λ c κs. search needs)
+    (λ c. search needs)
+    returns-2)
