@@ -29,7 +29,6 @@ use entry_ask::part_at;
 use entry_ask::tables_whole;
 use handshake::EntryRow;
 use handshake::FeatureRow;
-use vlq_write::vlq_len;
 use vlq_write::write_part;
 use vlq_write::write_vlq;
 use wire::Written;
@@ -234,6 +233,8 @@ fn put_vlq(out: &mut [u8], at: usize, value: u64) -> usize
     requires { ⌜ at + length (vlqBytes value) ≤ length (now out) ⌝ }
     ensures { λ r. ⌜ Wrote (now (out .entry)) at (vlqBytes value) r (now (out .exit)) ⌝ }
 {
-    write_vlq(out, at, value);
-    at + vlq_len(value)
+    match write_vlq(out, at, value) {
+        Written::To(end) => end,
+        Written::Refused(_) => at,
+    }
 }
