@@ -96,8 +96,8 @@ fn peers(calls: usize) -> Row {
 fn inv(calls: usize) -> Row {
     let ours = |frame: &Frame| {
         let [_, count, _, first, _] = message(frame);
-        let firsts = (0..count).map(|i| frame.body[(first + 32 * i) as usize]);
-        black_box(firsts.fold(0, u8::wrapping_add));
+        let ids = part(&frame.body, first, 32 * count);
+        black_box(ids.chunks_exact(32).fold(0, |sum: u8, id| sum.wrapping_add(id[0])));
     };
     let [ours, rust] = both(calls, frame_of(values::inv()), ours, |frame| keep(typed(frame)));
     Row::plain("from_frame of Inv of 400 ids", HALF, ours, rust)
