@@ -1,13 +1,13 @@
 -- What is asked of the entries of a table, and what is said once it is asked (document 01, "Questions", Writers).
 use Prim.Native.Nat.{ℕ, _+_, _/_, min}
-use mathlib.Core.Bool.{Bool, true, cond, _&&_, _||_}
+use mathlib.Core.Bool.{Bool, true, _&&_, _||_}
 use mathlib.Core.List.{List, [], _∷_, flatMap}
-use lib.Dec.{eqb, leb, ltb}
+use lib.Dec.{leb, ltb}
 use lib.ListN.{length}
 use Rattle.wire.specs.Bytes.{every}
 use Rattle.wire.specs.Output.{ask, asked}
 use Rattle.wire.specs.declared.Written.{Written}
-use Rattle.wire.specs.declared.Written.the-variants.{To, Refused}
+use Rattle.wire.specs.declared.Written.the-variants.{To}
 use Rattle.vlq.specs.Vlq.{limit}
 use Rattle.handshake.specs.declared.FeatureRow.{FeatureRow}
 use Rattle.handshake.specs.declared.EntryRow.{EntryRow}
@@ -69,8 +69,3 @@ partsSaid features buffer r =
     asked
     (ask 12 (entryInside (lent [] features buffer) r) ∷ entriesAsked (entryOf (lent [] features buffer) r ∷ []))
     (To (length (entryBytes (entryOf (lent [] features buffer) r))))
-
--- with the questions of the place (after 16) and of the room (last), for an output of len bytes
-unfoldable pub placed : ℕ → ℕ → Written → Written
-placed len at (To n) = cond (leb at len) (cond (leb (at + n) len) (To (at + n)) (Refused 14)) (Refused 12)
-placed len at (Refused m) = cond (eqb m 16) (Refused 16) (cond (leb at len) (Refused m) (Refused 12))

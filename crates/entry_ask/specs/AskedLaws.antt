@@ -14,7 +14,8 @@ use Rattle.wire.specs.BytesLaws.{and-true, every-map}
 use Rattle.wire.specs.Numbers.{lt-or-ge}
 use Rattle.wire.specs.Output.{ask, asked}
 use Rattle.wire.specs.declared.Written.the-variants.{To, Refused}
-use Rattle.vlq_write.specs.Asked.{writtenFor}
+use Rattle.output_ask.specs.Asked.{writtenFor, placed}
+use Rattle.output_ask.specs.AskedLaws.{Without16, placed-asked}
 use Rattle.vlq.specs.Vlq.{limit}
 use Rattle.handshake.specs.declared.FeatureRow.{FeatureRow}
 use Rattle.handshake.specs.declared.EntryRow.{EntryRow}
@@ -23,7 +24,7 @@ use Rattle.handshake.specs.Tables.{Lent, lent, featureRow, entryRow, entryRows,
 use Rattle.handshake.specs.TablesLaws.{every-row}
 use Rattle.handshake.specs.Writes.{rowInside, rowAsked}
 use Rattle.handshake.specs.RowsLaws.{length-rows, every-rows}
-use Rattle.entry_ask.specs.Asked.{featureHolds, rowHolds, numbersWhole, rowWhole, entrySaid, rowSaid, partsSaid, placed}
+use Rattle.entry_ask.specs.Asked.{featureHolds, rowHolds, numbersWhole, rowWhole, entrySaid, rowSaid, partsSaid}
 use Rattle.entry_ask.specs.declared.About.{About}
 use Rattle.entry_ask.specs.declared.About.the-variants.{Numbers, Inside, Short, Utf8, Count, Lengths}
 
@@ -162,19 +163,7 @@ module _ (l : Lent) (k : ℕ) where
 
 -- ---- the place and the room
 
-placed-all : (len at n : ℕ) (a b c d e f : Bool)
-    → placed len at (asked (ask 16 a ∷ ask 12 b ∷ ask 13 c ∷ ask 4 d ∷ ask 15 e ∷ ask 3 f ∷ []) (To n))
-    ≡ writtenFor (ask 16 a ∷ []) (ask 12 b ∷ ask 13 c ∷ ask 4 d ∷ ask 15 e ∷ ask 3 f ∷ []) len at n
-unfolding placed asked
-placed-all len at n false b c d e f = refl
-placed-all len at n true false c d e f = refl
-placed-all len at n true true false d e f = refl
-placed-all len at n true true true false e f = refl
-placed-all len at n true true true true false f = refl
-placed-all len at n true true true true true false = refl
-placed-all len at n true true true true true true = refl
-
 pub placed-row : (len at n : ℕ) (whole : Bool) (l : Lent) (k : ℕ)
     → placed len at (asked (ask 16 whole ∷ rowAsked l k) (To n)) ≡ writtenFor (ask 16 whole ∷ []) (rowAsked l k) len at n
-unfolding entriesAsked
-placed-row len at n whole l k = placed-all len at n whole _ _ _ _ _
+unfolding entriesAsked Without16
+placed-row len at n whole l k = placed-asked len at n whole (rowAsked l k) (refl, (refl, (refl, (refl, (refl, tt)))))

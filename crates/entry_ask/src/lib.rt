@@ -13,7 +13,7 @@ ghost use Rattle.handshake.specs.Value.{addressBytes, featureBytes, entryBytes,
 ghost use Rattle.handshake.specs.Tables.{lent, rows, featureRow, entryRow, bytesAt, featureOf, entryOf, entriesOf, featureNumbers, entryNumbers, tablesWhole, entryInside};
 ghost use Rattle.wire.specs.UpTo.{UpTo};
 ghost use Rattle.entry_ask.specs.Answered.{FeatureAnswered, Answered, TablesAnswered, Fits};
-ghost use Rattle.entry_ask.specs.Asked.{numbersWhole, rowHolds, featureHolds, entriesSaid, entrySaid, rowSaid, partsSaid, placed};
+ghost use Rattle.entry_ask.specs.Asked.{numbersWhole, rowHolds, featureHolds, entriesSaid, entrySaid, rowSaid, partsSaid};
 use handshake::EntryRow;
 use handshake::FeatureRow;
 use vlq_write::vlq_len;
@@ -67,24 +67,6 @@ pub fn ask_row(entries: &[u32], features: &[u32], buffer: &[u8], k: usize) -> Wr
         return Written::Refused(16);
     }
     ask_parts(features, buffer, e)
-}
-
-// Adds the place's and the room's question to what is said of a value: To has how many bytes it is written as.
-pub fn ask_place(len: usize, at: usize, said: Written) -> Written
-    ensures { λ r. ⌜ r ≡ placed len at said ⌝ }
-{
-    match said {
-        Written::To(n) => ask_room(len, at, n),
-        Written::Refused(m) => {
-            if m == 16 {
-                return Written::Refused(16);
-            }
-            if len < at {
-                return Written::Refused(12);
-            }
-            Written::Refused(m)
-        }
-    }
 }
 
 // Has each table whole rows, with numbers as they should be (question 16)?
@@ -429,19 +411,6 @@ fn feature_holds(about: About, buffer: &[u8], f: FeatureRow) -> bool
         About::Utf8 => true,
         About::Count => true,
     }
-}
-
-// What a writer of n bytes says of an output of len bytes, once its other questions are answered "yes".
-fn ask_room(len: usize, at: usize, n: usize) -> Written
-    ensures { λ r. ⌜ r ≡ placed len at (Written.To n) ⌝ }
-{
-    if len < at {
-        return Written::Refused(12);
-    }
-    if len - at < n {
-        return Written::Refused(14);
-    }
-    Written::To(at + n)
 }
 
 // ---- every question at once

@@ -8,7 +8,9 @@ ghost use Rattle.wire.specs.Output.{written, outputAfter};
 ghost use Rattle.wire.specs.OutputLaws.{Wrote};
 ghost use Rattle.vlq.specs.Vlq.{vlqBytes};
 ghost use Rattle.vlq.specs.ShortString.{shortStringBytes};
-ghost use Rattle.vlq_write.specs.Asked.{shortStringAsked, writtenFor};
+ghost use Rattle.output_ask.specs.Asked.{writtenFor};
+ghost use Rattle.vlq_write.specs.Asked.{shortStringAsked};
+use output_ask::ask_room;
 use wire::Written;
 
 // How many bytes the shortest VLQ of v has.
@@ -70,19 +72,6 @@ pub fn write_byte(out: &mut [u8], at: usize, b: u8) -> Written
         out[at] = b;
     }
     answer
-}
-
-// What a writer of n bytes that asks nothing else says of an output of len bytes.
-fn ask_room(len: usize, at: usize, n: usize) -> Written
-    ensures { λ r. ⌜ r ≡ writtenFor [] [] len at n ⌝ }
-{
-    if len < at {
-        Written::Refused(12)
-    } else if n <= len - at {
-        Written::To(at + n)
-    } else {
-        Written::Refused(14)
-    }
 }
 
 // What write_short_string says of an output of len bytes.

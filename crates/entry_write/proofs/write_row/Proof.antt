@@ -11,7 +11,8 @@ use Rattle.vlq_write.specs.CheckedLaws.{accepted, stored, kept}
 use Rattle.handshake.specs.Value.{entryBytes}
 use Rattle.handshake.specs.Tables.{lent, entryRow}
 use Rattle.handshake.specs.Writes.{entryAt, rowAsked}
-use Rattle.entry_ask.specs.Asked.{rowWhole, rowSaid, placed}
+use Rattle.output_ask.specs.Asked.{placed}
+use Rattle.entry_ask.specs.Asked.{rowWhole, rowSaid}
 use Rattle.entry_ask.specs.AskedLaws.{own-entry, placed-row}
 use Rattle.entry_write.specs.ReadyLaws.{row-in-table, row-ready}
 use Rattle.entry_write.proofs.write_row.Statement.{statement}

@@ -1,11 +1,11 @@
--- `vlq_write::ask_room` meets its contract: each answer is the definition's, by the tests that led to it.
+-- `output_ask::ask_room` meets its contract: each answer is the definition's, by the tests that led to it.
 use Prim.Native.Nat.{_+_}
 use native.Mathlib.Omega.{arith}
 use borrow.Author.Needs.{needs}
 use borrow.Author.Tests.{le-leb, lt-leb}
 use Rattle.wire.specs.Output.{asked}
-use Rattle.vlq_write.proofs.ask_room.Statement.{statement}
-use Rattle.vlq_write.proofs.ask_room.Tie as tie
+use Rattle.output_ask.proofs.ask_room.Statement.{statement}
+use Rattle.output_ask.proofs.ask_room.Tie as tie
 
 returns : tie.Need-returns
 unfolding asked
