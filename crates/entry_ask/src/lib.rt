@@ -5,15 +5,19 @@ ghost use mathlib.Core.Path.{_≡_};
 ghost use mathlib.Core.List.{List, [], map, flatMap};
 ghost use Prim.Native.Nat.{ℕ, _+_, _-_, _*_, _/_, _^_, _≤_, _<_, min};
 ghost use lib.Dec.{eqb, leb};
-ghost use lib.ListN.{length, getD};
+ghost use lib.ListN.{length};
 ghost use Rattle.wire.specs.Bytes.{every};
 ghost use Rattle.vlq.specs.Vlq.{limit};
 ghost use Rattle.handshake.specs.Entry.{addressOf};
 ghost use Rattle.handshake.specs.Value.{addressBytes, featureBytes, entryBytes, shortStrings, utf8Strings};
-ghost use Rattle.handshake.specs.Tables.{lent, rows, featureRow, entryRow, bytesAt, featureOf, entryOf, entriesOf, featureNumbers, entryNumbers, tablesWhole, entryInside};
+ghost use Rattle.handshake.specs.Tables.{lent, rows, featureRow, entryRow, featureOf, entryOf, entriesOf, featureNumbers, entryNumbers, tablesWhole, entryInside};
 ghost use Rattle.wire.specs.UpTo.{UpTo};
 ghost use Rattle.entry_ask.specs.Answered.{FeatureAnswered, Answered, TablesAnswered, Fits};
 ghost use Rattle.entry_ask.specs.Asked.{numbersWhole, rowHolds, featureHolds, entriesSaid, entrySaid, rowSaid, partsSaid};
+use entry_rows::address_size;
+use entry_rows::entry_at;
+use entry_rows::feature_at;
+use entry_rows::part_at;
 use handshake::EntryRow;
 use handshake::FeatureRow;
 use vlq_write::vlq_len;
@@ -59,7 +63,7 @@ pub fn ask_row(entries: &[u32], features: &[u32], buffer: &[u8], k: usize) -> Wr
     if entries.len() / 12 <= k {
         return Written::Refused(12);
     }
-    let e = whole_entry(entries, k);
+    let e = entry_at(entries, k);
     if row_ready(features, buffer, e) {
         return Written::To(entry_len(features, buffer, e));
     }
@@ -83,123 +87,6 @@ pub fn tables_whole(entries: &[u32], features: &[u32], buffer: &[u8]) -> bool
         return false;
     }
     every_feature(About::Numbers, features, buffer, 0, features.len() / 3)
-}
-
-// The bytes of the buffer that a row names, as far as they are there.
-pub fn part_at(buffer: &[u8], at: u32, len: u32) -> &[u8]
-    ensures { λ r. ⌜ now r ≡ bytesAt (now (buffer .entry)) at len ⌝ }
-{
-    let start = min_of(at as usize, buffer.len());
-    let end = min_of(at as usize + len as usize, buffer.len());
-    &buffer[start..end]
-}
-
-// How many bytes an address with the length byte L has.
-pub fn address_size(l: u32) -> u32
-    ensures { λ r. ⌜ r ≡ l - 4 ⌝ }
-{
-    if l < 4 { 0 } else { l - 4 }
-}
-
-// ---- rows
-
-// Row k of an entry table, with 0 for each number that is not there.
-pub fn entry_at(t: &[u32], k: usize) -> EntryRow
-    ensures { λ r. ⌜ r ≡ entryRow (now (t .entry)) k ⌝ }
-{
-    if k < t.len() / 12 {
-        whole_entry(t, k)
-    } else {
-        partial_entry(t, k)
-    }
-}
-
-fn whole_entry(t: &[u32], k: usize) -> EntryRow
-    requires { ⌜ 12 * k + 12 ≤ length (now t) ⌝ }
-    ensures { λ r. ⌜ r ≡ entryRow (now (t .entry)) k ⌝ }
-{
-    let b = 12 * k;
-    EntryRow {
-        agentat: t[b],
-        agentlen: t[b + 1],
-        major: t[b + 2],
-        minor: t[b + 3],
-        patch: t[b + 4],
-        nameat: t[b + 5],
-        namelen: t[b + 6],
-        addrlen: t[b + 7],
-        addrat: t[b + 8],
-        port: t[b + 9],
-        first: t[b + 10],
-        count: t[b + 11],
-    }
-}
-
-fn partial_entry(t: &[u32], k: usize) -> EntryRow
-    ensures { λ r. ⌜ r ≡ entryRow (now (t .entry)) k ⌝ }
-{
-    let b = 12 * min_of(k, t.len() / 12 + 1);
-    EntryRow {
-        agentat: number_at(t, b),
-        agentlen: number_at(t, b + 1),
-        major: number_at(t, b + 2),
-        minor: number_at(t, b + 3),
-        patch: number_at(t, b + 4),
-        nameat: number_at(t, b + 5),
-        namelen: number_at(t, b + 6),
-        addrlen: number_at(t, b + 7),
-        addrat: number_at(t, b + 8),
-        port: number_at(t, b + 9),
-        first: number_at(t, b + 10),
-        count: number_at(t, b + 11),
-    }
-}
-
-// Row k of a feature table, with 0 for each number that is not there.
-pub fn feature_at(t: &[u32], k: usize) -> FeatureRow
-    ensures { λ r. ⌜ r ≡ featureRow (now (t .entry)) k ⌝ }
-{
-    if k < t.len() / 3 {
-        whole_feature(t, k)
-    } else {
-        partial_feature(t, k)
-    }
-}
-
-fn whole_feature(t: &[u32], k: usize) -> FeatureRow
-    requires { ⌜ 3 * k + 3 ≤ length (now t) ⌝ }
-    ensures { λ r. ⌜ r ≡ featureRow (now (t .entry)) k ⌝ }
-{
-    let b = 3 * k;
-    FeatureRow {
-        id: t[b],
-        at: t[b + 1],
-        len: t[b + 2],
-    }
-}
-
-fn partial_feature(t: &[u32], k: usize) -> FeatureRow
-    ensures { λ r. ⌜ r ≡ featureRow (now (t .entry)) k ⌝ }
-{
-    let b = 3 * min_of(k, t.len() / 3 + 1);
-    FeatureRow {
-        id: number_at(t, b),
-        at: number_at(t, b + 1),
-        len: number_at(t, b + 2),
-    }
-}
-
-// A number of a table; 0 outside.
-fn number_at(t: &[u32], i: usize) -> u32
-    ensures { λ r. ⌜ r ≡ getD (now (t .entry)) i 0 ⌝ }
-{
-    if i < t.len() { t[i] } else { 0 }
-}
-
-fn min_of(a: usize, b: usize) -> usize
-    ensures { λ r. ⌜ r ≡ min a b ⌝ }
-{
-    if a <= b { a } else { b }
 }
 
 // ---- questions
@@ -451,7 +338,7 @@ fn rows_ready(entries: &[u32], features: &[u32], buffer: &[u8]) -> bool
     let n = entries.len() / 12;
     let mut k: usize = 0;
     while k < n {
-        if !row_ready(features, buffer, whole_entry(entries, k)) {
+        if !row_ready(features, buffer, entry_at(entries, k)) {
             return false;
         }
         k += 1;
@@ -505,7 +392,7 @@ fn features_ready(features: &[u32], buffer: &[u8], first: usize, count: usize) -
 {
     let mut k: usize = 0;
     while k < count {
-        if !feature_ready(buffer.len(), whole_feature(features, first + k)) {
+        if !feature_ready(buffer.len(), feature_at(features, first + k)) {
             return false;
         }
         k += 1;
@@ -537,7 +424,7 @@ fn entries_len(entries: &[u32], features: &[u32], buffer: &[u8]) -> usize
     let mut k: usize = 0;
     while k < n {
         m = min_of(
-            m + entry_len(features, buffer, whole_entry(entries, k)),
+            m + entry_len(features, buffer, entry_at(entries, k)),
             LIMIT + 1,
         );
         k += 1;
@@ -585,4 +472,10 @@ fn feature_len(buffer: &[u8], f: FeatureRow) -> usize
 {
     let body = part_at(buffer, f.at, f.len);
     1 + vlq_len(body.len() as u64) + body.len()
+}
+
+fn min_of(a: usize, b: usize) -> usize
+    ensures { λ r. ⌜ r ≡ min a b ⌝ }
+{
+    if a <= b { a } else { b }
 }

@@ -1,11 +1,11 @@
--- `entry_ask::partial_entry` meets its contract: each number is that of its column, or 0 past the last row.
+-- `entry_rows::partial_entry` meets its contract: each number is that of its column, or 0 past the last row.
 use Prim.Native.Nat.{_+_, _*_}
 use native.Mathlib.Omega.{arith}
 use denote.Ref.{now}
-use Rattle.entry_ask.proofs.ClampLaws.{in-twelve}
+use Rattle.entry_rows.proofs.ClampLaws.{in-twelve}
 use borrow.Author.Needs.{needs}
-use Rattle.entry_ask.proofs.partial_entry.Statement.{statement}
-use Rattle.entry_ask.proofs.partial_entry.Tie as tie
+use Rattle.entry_rows.proofs.partial_entry.Statement.{statement}
+use Rattle.entry_rows.proofs.partial_entry.Tie as tie
 
 returns : tie.Need-returns
 returns c =

@@ -1,11 +1,11 @@
--- `entry_ask::partial_feature` meets its contract: each number is that of its column, or 0 past the last row.
+-- `entry_rows::partial_feature` meets its contract: each number is that of its column, or 0 past the last row.
 use Prim.Native.Nat.{_+_, _*_}
 use native.Mathlib.Omega.{arith}
 use denote.Ref.{now}
-use Rattle.entry_ask.proofs.ClampLaws.{in-three}
+use Rattle.entry_rows.proofs.ClampLaws.{in-three}
 use borrow.Author.Needs.{needs}
-use Rattle.entry_ask.proofs.partial_feature.Statement.{statement}
-use Rattle.entry_ask.proofs.partial_feature.Tie as tie
+use Rattle.entry_rows.proofs.partial_feature.Statement.{statement}
+use Rattle.entry_rows.proofs.partial_feature.Tie as tie
 
 returns : tie.Need-returns
 returns c =

@@ -1,10 +1,10 @@
--- `entry_ask::part_at` meets its contract: both places are at most the length, and the bytes between them are those that are there.
+-- `entry_rows::part_at` meets its contract: both places are at most the length, and the bytes between them are those that are there.
 use native.Mathlib.Omega.{arith}
 use denote.Ref.{now}
 use borrow.Author.Needs.{needs}
-use Rattle.entry_ask.specs.LengthLaws.{part-clamped}
-use Rattle.entry_ask.proofs.part_at.Statement.{statement}
-use Rattle.entry_ask.proofs.part_at.Tie as tie
+use Rattle.entry_rows.proofs.ClampLaws.{part-clamped}
+use Rattle.entry_rows.proofs.part_at.Statement.{statement}
+use Rattle.entry_rows.proofs.part_at.Tie as tie
 
 part-result-start : tie.Need-part-result-start
 part-result-start c = omega (arith, c .before .min-of .ensures, c .min-of2 .ensures)
