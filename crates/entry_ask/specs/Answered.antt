@@ -7,11 +7,12 @@ use lib.Dec.{eqb, leb}
 use Rattle.wire.specs.Bytes.{every}
 use Rattle.handshake.specs.declared.FeatureRow.{FeatureRow}
 use Rattle.handshake.specs.declared.EntryRow.{EntryRow}
-use Rattle.handshake.specs.Tables.{Lent, entryRows, tablesWhole}
+use Rattle.handshake.specs.Tables.{Lent, entryRows, featureNumbers, tablesWhole}
 use Rattle.entry_ask.specs.Asked.{featureHolds, rowHolds, numbersWhole}
 use Rattle.entry_ask.specs.declared.About.{About}
 
 pub record FeatureAnswered (buffer : List ℕ) (f : FeatureRow) : Type 0 where
+  pub numbers : featureNumbers f ≡ true
   pub holds : (about : About) → featureHolds about buffer f ≡ true
 
 pub record Answered (features buffer : List ℕ) (r : EntryRow) : Type 0 where

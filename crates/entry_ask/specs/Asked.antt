@@ -15,12 +15,11 @@ use Rattle.handshake.specs.Value.{entryBytes, shortStrings, utf8Strings, fewFea
 use Rattle.handshake.specs.Tables.{Lent, lent, rows, featureRow, entryRow, entryRows, featureOf, entryOf, entriesOf, featureNumbers, entryNumbers, tablesWhole, featureInside, entryInside}
 use Rattle.handshake.specs.Writes.{entryAt, rowAsked}
 use Rattle.entry_ask.specs.declared.About.{About}
-use Rattle.entry_ask.specs.declared.About.the-variants.{Numbers, Inside, Short, Utf8, Count, Lengths}
+use Rattle.entry_ask.specs.declared.About.the-variants.{Inside, Short, Utf8, Count, Lengths}
 
 -- ---- a question of one row
 
 unfoldable pub featureHolds : About → List ℕ → FeatureRow → Bool
-featureHolds Numbers buffer f = featureNumbers f
 featureHolds Inside buffer f = featureInside buffer f
 featureHolds Short buffer f = true
 featureHolds Utf8 buffer f = true
@@ -28,7 +27,6 @@ featureHolds Count buffer f = true
 featureHolds Lengths buffer f = leb (length (featureOf buffer f .body)) limit
 
 unfoldable pub rowHolds : About → List ℕ → List ℕ → EntryRow → Bool
-rowHolds Numbers features buffer r = entryNumbers r
 rowHolds Inside features buffer r = entryInside (lent [] features buffer) r
 rowHolds Short features buffer r = shortStrings (entryOf (lent [] features buffer) r)
 rowHolds Utf8 features buffer r = utf8Strings (entryOf (lent [] features buffer) r)

@@ -2,7 +2,7 @@
 -- beside the other questions.
 use Prim.Native.Nat.{ℕ, _+_, _/_, _≤_, _<_}
 use native.Mathlib.Omega.{arith}
-use mathlib.Core.Bool.{Bool, true, false, _||_}
+use mathlib.Core.Bool.{Bool, true, false, _&&_, _||_}
 use mathlib.Core.List.{List, [], _∷_}
 use mathlib.Core.Logic.{⊎-elim}
 use mathlib.Core.Path.{_≡_, refl, sym, ap, _∙_}
@@ -26,7 +26,7 @@ use Rattle.handshake.specs.Writes.{rowInside, rowAsked}
 use Rattle.handshake.specs.RowsLaws.{length-rows, every-rows}
 use Rattle.entry_ask.specs.Asked.{featureHolds, rowHolds, numbersWhole, rowWhole, entrySaid, rowSaid, partsSaid}
 use Rattle.entry_ask.specs.declared.About.{About}
-use Rattle.entry_ask.specs.declared.About.the-variants.{Numbers, Inside, Short, Utf8, Count, Lengths}
+use Rattle.entry_ask.specs.declared.About.the-variants.{Inside, Short, Utf8, Count, Lengths}
 
 -- ---- a row is known by the feature table and the buffer
 
@@ -66,10 +66,6 @@ every-same t u h [] = refl
 every-same t u h (a ∷ l) = rw (h a, every-same t u h l)
 
 module _ (l : Lent) where
-  pub rows-numbers : every (rowHolds Numbers (l .features) (l .buffer)) (entryRows l) ≡ every entryNumbers (entryRows l)
-  unfolding rowHolds
-  rows-numbers = every-same _ _ (λ r. refl) (entryRows l)
-
   pub rows-inside : every (rowHolds Inside (l .features) (l .buffer)) (entryRows l) ≡ every (entryInside l) (entryRows l)
   unfolding rowHolds
   rows-inside = every-same _ _ (λ r. own-inside l r) (entryRows l)
@@ -96,20 +92,36 @@ module _ (l : Lent) where
   unfolding rowHolds
   rows-lengths = of-values Lengths lengthsWithin (λ r. ap lengthsWithin (own-entry l r))
 
-module _ (buffer : List ℕ) (fs : List FeatureRow) where
-  pub features-numbers : every (featureHolds Numbers buffer) fs ≡ every featureNumbers fs
-  unfolding featureHolds
-  features-numbers = every-same _ _ (λ f. refl) fs
-
-  pub features-inside : every (featureHolds Inside buffer) fs ≡ every (featureInside buffer) fs
-  unfolding featureHolds
-  features-inside = every-same _ _ (λ f. refl) fs
+pub features-inside : (buffer : List ℕ) (fs : List FeatureRow) → every (featureHolds Inside buffer) fs ≡ every (featureInside buffer) fs
+unfolding featureHolds
+features-inside buffer fs = every-same _ _ (λ f. refl) fs
 
 pub features-lengths : (l : Lent) (r : EntryRow) → every (featureHolds Lengths (l .buffer)) (ownRows l r) ≡ lengthsWithin (entryOf l r)
 unfolding featureHolds lengthsWithin entryOf
 features-lengths l r = every-same _ _ (λ f. refl) (ownRows l r) ∙ sym (every-map (λ f. leb (length (f .body)) limit) (featureOf (l .buffer)) (ownRows l r))
 
 -- ---- 16 of both tables, and of one row
+
+-- 16 of the entry table's length, of the feature table, and of the entry rows
+module _ (l : Lent) (whole : wholeRows 12 (l .entries) ≡ true) where
+  pub features-broken : wholeRows 3 (l .features) && every featureNumbers (featureRows l) ≡ false → tablesWhole l ≡ false
+  unfolding tablesWhole
+  features-broken e = rw whole (go (wholeRows 3 (l .features)) (every entryNumbers (entryRows l)) (every featureNumbers (featureRows l)) e)
+    where
+      go : (s t u : Bool) → s && u ≡ false → s && (t && u) ≡ false
+      go false t u h = refl
+      go true false u h = refl
+      go true true u h = h
+
+  pub entries-left : wholeRows 3 (l .features) && every featureNumbers (featureRows l) ≡ true → tablesWhole l ≡ every entryNumbers (entryRows l)
+  unfolding tablesWhole
+  entries-left e =
+      let p = and-true (wholeRows 3 (l .features)) (every featureNumbers (featureRows l)) e in
+      rw (whole, p .0, p .1) (go (every entryNumbers (entryRows l)))
+    where
+      go : (t : Bool) → t && true ≡ t
+      go true = refl
+      go false = refl
 
 or-left : (t u : Bool) → t ≡ true → t || u ≡ true
 or-left t u e = rw e

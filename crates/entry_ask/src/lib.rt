@@ -1,6 +1,6 @@
 // What is asked of entries before they are written from a table of rows beside a lent buffer (document 01, "Questions", Writers), and how long
 // they are: each question over all rows before the next.
-ghost use mathlib.Core.Bool.{_||_, true};
+ghost use mathlib.Core.Bool.{_&&_, _||_, true};
 ghost use mathlib.Core.Path.{_≡_};
 ghost use mathlib.Core.List.{List, [], map, flatMap};
 ghost use Prim.Native.Nat.{ℕ, _+_, _-_, _*_, _/_, _^_, _≤_, _<_, min};
@@ -10,7 +10,7 @@ ghost use Rattle.wire.specs.Bytes.{every};
 ghost use Rattle.vlq.specs.Vlq.{limit};
 ghost use Rattle.handshake.specs.Entry.{addressOf};
 ghost use Rattle.handshake.specs.Value.{addressBytes, featureBytes, entryBytes, shortStrings, utf8Strings};
-ghost use Rattle.handshake.specs.Tables.{lent, rows, featureRow, entryRow, featureOf, entryOf, entriesOf, featureNumbers, entryNumbers, tablesWhole, entryInside};
+ghost use Rattle.handshake.specs.Tables.{lent, rows, featureRow, entryRow, featureOf, entryOf, entriesOf, wholeRows, featureNumbers, entryNumbers, tablesWhole, entryInside};
 ghost use Rattle.wire.specs.UpTo.{UpTo};
 ghost use Rattle.entry_ask.specs.Answered.{FeatureAnswered, Answered, TablesAnswered, Fits};
 ghost use Rattle.entry_ask.specs.Asked.{numbersWhole, rowHolds, featureHolds, entriesSaid, entrySaid, rowSaid, partsSaid};
@@ -28,7 +28,6 @@ const LIMIT: usize = 16_388_608;
 
 // A question that is asked of each row.
 enum About {
-    Numbers,
     Inside,
     Short,
     Utf8,
@@ -67,7 +66,7 @@ pub fn ask_row(entries: &[u32], features: &[u32], buffer: &[u8], k: usize) -> Wr
     if row_ready(features, buffer, e) {
         return Written::To(entry_len(features, buffer, e));
     }
-    if !row_whole(features, buffer, e) {
+    if !row_whole(features, e) {
         return Written::Refused(16);
     }
     ask_parts(features, buffer, e)
@@ -80,13 +79,10 @@ pub fn tables_whole(entries: &[u32], features: &[u32], buffer: &[u8]) -> bool
     if entries.len() % 12 != 0 {
         return false;
     }
-    if features.len() % 3 != 0 {
+    if !features_whole(features) {
         return false;
     }
-    if !every_row(About::Numbers, entries, features, buffer) {
-        return false;
-    }
-    every_feature(About::Numbers, features, buffer, 0, features.len() / 3)
+    every_entry(entries)
 }
 
 // ---- questions
@@ -131,7 +127,47 @@ fn every_row(about: About, entries: &[u32], features: &[u32], buffer: &[u8]) -> 
     true
 }
 
-fn row_whole(features: &[u32], buffer: &[u8], e: EntryRow) -> bool
+// Has each row of the entry table numbers as they should be?
+fn every_entry(entries: &[u32]) -> bool
+    ensures { λ r. ⌜ r ≡ every entryNumbers (rows (entryRow (now (entries .entry))) 0 (length (now (entries .entry)) / 12)) ⌝ }
+{
+    let n = entries.len() / 12;
+    let mut k: usize = 0;
+    while k < n {
+        if !entry_numbers(entry_at(entries, k)) {
+            return false;
+        }
+        k += 1;
+    }
+    true
+}
+
+// Has the feature table whole rows, with ids below 256?
+fn features_whole(features: &[u32]) -> bool
+    ensures { λ r. ⌜ r ≡ wholeRows 3 (now (features .entry)) && every featureNumbers (rows (featureRow (now (features .entry))) 0 (length (now (features .entry)) / 3)) ⌝ }
+{
+    if features.len() % 3 != 0 {
+        return false;
+    }
+    every_id(features, 0, features.len() / 3)
+}
+
+// Has each of count feature rows an id below 256?
+fn every_id(features: &[u32], first: usize, count: usize) -> bool
+    requires { ⌜ first + count ≤ length (now features) / 3 ⌝ }
+    ensures { λ r. ⌜ r ≡ every featureNumbers (rows (featureRow (now (features .entry))) first count) ⌝ }
+{
+    let mut k: usize = 0;
+    while k < count {
+        if 256 <= features[3 * (first + k)] {
+            return false;
+        }
+        k += 1;
+    }
+    true
+}
+
+fn row_whole(features: &[u32], e: EntryRow) -> bool
     ensures { λ r. ⌜ r ≡ numbersWhole (now (features .entry)) e ⌝ }
 {
     if !entry_numbers(e) {
@@ -140,13 +176,7 @@ fn row_whole(features: &[u32], buffer: &[u8], e: EntryRow) -> bool
     if features.len() / 3 < e.first as usize + e.count as usize {
         return true;
     }
-    every_feature(
-        About::Numbers,
-        features,
-        buffer,
-        e.first as usize,
-        e.count as usize,
-    )
+    every_id(features, e.first as usize, e.count as usize)
 }
 
 // The questions of one row after that of its numbers.
@@ -175,7 +205,6 @@ fn row_holds(about: About, features: &[u32], buffer: &[u8], e: EntryRow) -> bool
     ensures { λ r. ⌜ r ≡ rowHolds about (now (features .entry)) (now (buffer .entry)) e ⌝ }
 {
     match about {
-        About::Numbers => entry_numbers(e),
         About::Inside => entry_inside(features, buffer, e),
         About::Short => strings_short(buffer, e),
         About::Utf8 => strings_utf8(buffer, e),
@@ -288,7 +317,6 @@ fn feature_holds(about: About, buffer: &[u8], f: FeatureRow) -> bool
     ensures { λ r. ⌜ r ≡ featureHolds about (now (buffer .entry)) f ⌝ }
 {
     match about {
-        About::Numbers => f.id < 256,
         About::Inside => is_inside(buffer.len(), f.at, f.len),
         About::Lengths => {
             let body = part_at(buffer, f.at, f.len);
@@ -309,27 +337,10 @@ fn tables_ready(entries: &[u32], features: &[u32], buffer: &[u8]) -> bool
     if entries.len() % 12 != 0 {
         return false;
     }
-    if features.len() % 3 != 0 {
-        return false;
-    }
-    if !every_id(features) {
+    if !features_whole(features) {
         return false;
     }
     rows_ready(entries, features, buffer)
-}
-
-fn every_id(features: &[u32]) -> bool
-    ensures { λ r. ⌜ r ≡ every featureNumbers (rows (featureRow (now (features .entry))) 0 (length (now (features .entry)) / 3)) ⌝ }
-{
-    let n = features.len() / 3;
-    let mut k: usize = 0;
-    while k < n {
-        if 256 <= features[3 * k] {
-            return false;
-        }
-        k += 1;
-    }
-    true
 }
 
 fn rows_ready(entries: &[u32], features: &[u32], buffer: &[u8]) -> bool

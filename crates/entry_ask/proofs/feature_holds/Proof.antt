@@ -1,21 +1,21 @@
 -- `entry_ask::feature_holds` meets its contract: one arm for each question.
 use borrow.Author.Needs.{needs}
-use Rattle.handshake.specs.Tables.{featureOf, featureNumbers, inside, featureInside}
+use Rattle.handshake.specs.Tables.{featureOf, inside, featureInside}
 use Rattle.entry_ask.specs.Asked.{featureHolds}
 use Rattle.entry_ask.proofs.feature_holds.Statement.{statement}
 use Rattle.entry_ask.proofs.feature_holds.Tie as tie
 
 returns : tie.Need-returns
-unfolding featureHolds featureNumbers
-returns c = rw (c .before .enum-told .given .1)
+unfolding featureHolds featureInside inside
+returns c = rw (c .before .enum-told .given .1) (c .is-inside .ensures)
 
 returns-2 : tie.Need-returns-2
-unfolding featureHolds featureInside inside
-returns-2 c = rw (c .before .enum-told2 .given .1) (c .is-inside .ensures)
+unfolding featureHolds featureOf
+returns-2 c = rw (c .before .enum-told2 .given .1, c .part-at .ensures)
 
 returns-3 : tie.Need-returns-3
-unfolding featureHolds featureOf
-returns-3 c = rw (c .before .enum-told3 .given .1, c .part-at .ensures)
+unfolding featureHolds
+returns-3 c = rw (c .enum-told3 .given .1)
 
 returns-4 : tie.Need-returns-4
 unfolding featureHolds
@@ -25,15 +25,10 @@ returns-5 : tie.Need-returns-5
 unfolding featureHolds
 returns-5 c = rw (c .enum-told5 .given .1)
 
-returns-6 : tie.Need-returns-6
-unfolding featureHolds
-returns-6 c = rw (c .enum-told6 .given .1)
-
 pub feature-holds-spec : {M : Type 1} → statement M
 feature-holds-spec =
     tie.close
     (tie.spec
-    (λ c. search needs)
     (λ c. search needs)
     (λ c κs. search needs)
     (λ c. search needs)
@@ -45,5 +40,4 @@ feature-holds-spec =
     returns-2
     returns-3
     returns-4
-    returns-5
-    returns-6)
+    returns-5)

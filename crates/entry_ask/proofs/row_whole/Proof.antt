@@ -7,7 +7,6 @@ use lib.ListN.{length}
 use borrow.Author.Needs.{needs}
 use borrow.Author.Tests.{lt-ltb, le-ltb, not-true, not-false}
 use Rattle.entry_ask.specs.Asked.{numbersWhole}
-use Rattle.entry_ask.specs.AskedLaws.{features-numbers}
 use Rattle.entry_ask.proofs.row_whole.Statement.{statement}
 use Rattle.entry_ask.proofs.row_whole.Tie as tie
 
@@ -18,22 +17,19 @@ returns c = rw (sym (c .before .entry-numbers .ensures) ∙ not-true _ (c .if1 .
 returns-2 : tie.Need-returns-2
 unfolding numbersWhole
 returns-2 c =
-    let a = c .before .before .before .before .before .before .before .args in
+    let a = c .before .before .before .before .before .before .args in
     let range = lt-ltb (length (now (a .features)) / 3) (a .e .first + a .e .count) (omega arith) in
     rw (sym (c .before .before .before .before .entry-numbers .ensures) ∙ not-false _ (c .before .before .before .if1 .left), range)
 
-cast-every-feature-2 : tie.Need-cast-every-feature-2
-cast-every-feature-2 c = omega arith
-
-every-feature-requires : tie.Need-every-feature-requires
-every-feature-requires c κs = omega arith
+every-id-requires : tie.Need-every-id-requires
+every-id-requires c κs = omega arith
 
 returns-3 : tie.Need-returns-3
 unfolding numbersWhole
 returns-3 c =
-    let a = c .before .before .before .before .before .before .before .before .before .before .args in
+    let a = c .before .before .before .before .before .before .before .before .before .args in
     let range = le-ltb (length (now (a .features)) / 3) (a .e .first + a .e .count) (omega arith) in
-    rw (sym (c .before .before .before .before .before .before .before .entry-numbers .ensures) ∙ not-false _ (c .before .before .before .before .before .before .if1 .left), range) (c .every-feature .ensures ∙ features-numbers _ _)
+    rw (sym (c .before .before .before .before .before .before .before .entry-numbers .ensures) ∙ not-false _ (c .before .before .before .before .before .before .if1 .left), range) (c .every-id .ensures)
 
 pub row-whole-spec : {M : Type 1} → statement M
 row-whole-spec =
@@ -46,6 +42,6 @@ row-whole-spec =
     (λ c. search needs)
     returns-2
     (λ c. search needs)
-    cast-every-feature-2
-    every-feature-requires
+    (λ c. search needs)
+    every-id-requires
     returns-3)
