@@ -16,12 +16,15 @@ use Rattle.handshake.specs.declared.FeatureRow.{FeatureRow}
 use Rattle.handshake.specs.declared.EntryRow.{EntryRow}
 use Rattle.handshake.specs.Value.{entryBytes, shortStrings, utf8Strings, entriesAsked}
 use Rattle.handshake.specs.Tables.{Lent, lent, rows, featureRow, entryRow, entryRows, featureRows, bytesAt, featureOf, entryOf, entriesOf, wholeRows, featureNumbers, entryNumbers, tablesWhole, inside, featureInside, entryInside}
-use Rattle.entry_ask.specs.Asked.{featureHolds, rowHolds, numbersWhole, entriesSaid, rowSaid, partsSaid}
+use Rattle.entry_questions.specs.Questions.{featureHolds, rowHolds}
+use Rattle.entry_whole.specs.Whole.{numbersWhole}
+use Rattle.entry_ask.specs.Asked.{entriesSaid, rowSaid, partsSaid}
 use Rattle.entry_ask.specs.Answered.{FeatureAnswered, Answered, TablesAnswered, Fits}
-use Rattle.entry_ask.specs.AskedLaws.{own-utf8, few-count, rows-inside, rows-short, rows-utf8, rows-count, rows-lengths, features-inside, features-lengths, row-parts}
+use Rattle.entry_questions.specs.QuestionsLaws.{own-utf8, few-count, rows-inside, rows-short, rows-utf8, rows-count, rows-lengths, features-inside, features-lengths}
+use Rattle.entry_ask.specs.AskedLaws.{row-parts}
 use Rattle.entry_ask.specs.LengthLaws.{length-bytesAt-le}
-use Rattle.entry_ask.specs.declared.About.{About}
-use Rattle.entry_ask.specs.declared.About.the-variants.{Inside, Short, Utf8, Count, Lengths}
+use Rattle.entry_questions.specs.declared.About.{About}
+use Rattle.entry_questions.specs.declared.About.the-variants.{Inside, Short, Utf8, Count, Lengths}
 
 -- of an answer "no" nothing is told
 pub untold : {A : Type 0} → false ≡ true → A

@@ -1,23 +1,34 @@
 // What is asked of entries before they are written from a table of rows beside a lent buffer (document 01, "Questions", Writers), and how long
 // they are: each question over all rows before the next.
-ghost use mathlib.Core.Bool.{_&&_, _||_, true};
+ghost use mathlib.Core.Bool.{true};
 ghost use mathlib.Core.Path.{_≡_};
 ghost use mathlib.Core.List.{List, [], map, flatMap};
 ghost use Prim.Native.Nat.{ℕ, _+_, _-_, _*_, _/_, _^_, _≤_, _<_, min};
-ghost use lib.Dec.{eqb, leb};
 ghost use lib.ListN.{length};
 ghost use Rattle.wire.specs.Bytes.{every};
 ghost use Rattle.vlq.specs.Vlq.{limit};
 ghost use Rattle.handshake.specs.Entry.{addressOf};
-ghost use Rattle.handshake.specs.Value.{addressBytes, featureBytes, entryBytes, shortStrings, utf8Strings};
-ghost use Rattle.handshake.specs.Tables.{lent, rows, featureRow, entryRow, featureOf, entryOf, entriesOf, wholeRows, featureNumbers, entryNumbers, tablesWhole, entryInside};
+ghost use Rattle.handshake.specs.Value.{addressBytes, featureBytes, entryBytes};
+ghost use Rattle.handshake.specs.Tables.{lent, rows, featureRow, entryRow, featureOf, entryOf, entriesOf};
 ghost use Rattle.wire.specs.UpTo.{UpTo};
 ghost use Rattle.entry_ask.specs.Answered.{FeatureAnswered, Answered, TablesAnswered, Fits};
-ghost use Rattle.entry_ask.specs.Asked.{numbersWhole, rowHolds, featureHolds, entriesSaid, entrySaid, rowSaid, partsSaid};
-use entry_rows::address_size;
+ghost use Rattle.entry_questions.specs.Questions.{rowHolds};
+ghost use Rattle.entry_ask.specs.Asked.{entriesSaid, entrySaid, rowSaid, partsSaid};
+use entry_questions::About;
+use entry_questions::address_inside;
+use entry_questions::entry_inside;
+use entry_questions::every_row;
+use entry_questions::is_inside;
+use entry_questions::row_holds;
+use entry_questions::strings_short;
+use entry_questions::strings_utf8;
 use entry_rows::entry_at;
 use entry_rows::feature_at;
 use entry_rows::part_at;
+use entry_whole::entry_numbers;
+use entry_whole::features_whole;
+use entry_whole::row_whole;
+use entry_whole::tables_whole;
 use handshake::EntryRow;
 use handshake::FeatureRow;
 use vlq_write::vlq_len;
@@ -25,15 +36,6 @@ use wire::Written;
 
 // The most that a length may be.
 const LIMIT: usize = 16_388_608;
-
-// A question that is asked of each row.
-enum About {
-    Inside,
-    Short,
-    Utf8,
-    Count,
-    Lengths,
-}
 
 // What is said of all entries of the table: the refusal number, or how many bytes they are written as, LIMIT + 1 where they are more.
 pub fn ask_entries(entries: &[u32], features: &[u32], buffer: &[u8]) -> Written
@@ -72,19 +74,6 @@ pub fn ask_row(entries: &[u32], features: &[u32], buffer: &[u8], k: usize) -> Wr
     ask_parts(features, buffer, e)
 }
 
-// Has each table whole rows, with numbers as they should be (question 16)?
-pub fn tables_whole(entries: &[u32], features: &[u32], buffer: &[u8]) -> bool
-    ensures { λ r. ⌜ r ≡ tablesWhole (lent (now (entries .entry)) (now (features .entry)) (now (buffer .entry))) ⌝ }
-{
-    if entries.len() % 12 != 0 {
-        return false;
-    }
-    if !features_whole(features) {
-        return false;
-    }
-    every_entry(entries)
-}
-
 // ---- questions
 
 // The questions of all entries, each over all rows before the next.
@@ -112,73 +101,6 @@ fn ask_in_order(entries: &[u32], features: &[u32], buffer: &[u8]) -> Written
     Written::To(entries_len(entries, features, buffer))
 }
 
-// Is the question answered "yes" for each row of the entry table?
-fn every_row(about: About, entries: &[u32], features: &[u32], buffer: &[u8]) -> bool
-    ensures { λ r. ⌜ r ≡ every (rowHolds about (now (features .entry)) (now (buffer .entry))) (rows (entryRow (now (entries .entry))) 0 (length (now (entries .entry)) / 12)) ⌝ }
-{
-    let n = entries.len() / 12;
-    let mut k: usize = 0;
-    while k < n {
-        if !row_holds(about, features, buffer, entry_at(entries, k)) {
-            return false;
-        }
-        k += 1;
-    }
-    true
-}
-
-// Has each row of the entry table numbers as they should be?
-fn every_entry(entries: &[u32]) -> bool
-    ensures { λ r. ⌜ r ≡ every entryNumbers (rows (entryRow (now (entries .entry))) 0 (length (now (entries .entry)) / 12)) ⌝ }
-{
-    let n = entries.len() / 12;
-    let mut k: usize = 0;
-    while k < n {
-        if !entry_numbers(entry_at(entries, k)) {
-            return false;
-        }
-        k += 1;
-    }
-    true
-}
-
-// Has the feature table whole rows, with ids below 256?
-fn features_whole(features: &[u32]) -> bool
-    ensures { λ r. ⌜ r ≡ wholeRows 3 (now (features .entry)) && every featureNumbers (rows (featureRow (now (features .entry))) 0 (length (now (features .entry)) / 3)) ⌝ }
-{
-    if features.len() % 3 != 0 {
-        return false;
-    }
-    every_id(features, 0, features.len() / 3)
-}
-
-// Has each of count feature rows an id below 256?
-fn every_id(features: &[u32], first: usize, count: usize) -> bool
-    requires { ⌜ first + count ≤ length (now features) / 3 ⌝ }
-    ensures { λ r. ⌜ r ≡ every featureNumbers (rows (featureRow (now (features .entry))) first count) ⌝ }
-{
-    let mut k: usize = 0;
-    while k < count {
-        if 256 <= features[3 * (first + k)] {
-            return false;
-        }
-        k += 1;
-    }
-    true
-}
-
-fn row_whole(features: &[u32], e: EntryRow) -> bool
-    ensures { λ r. ⌜ r ≡ numbersWhole (now (features .entry)) e ⌝ }
-{
-    if !entry_numbers(e) {
-        return false;
-    }
-    if features.len() / 3 < e.first as usize + e.count as usize {
-        return true;
-    }
-    every_id(features, e.first as usize, e.count as usize)
-}
-
 // The questions of one row after that of its numbers.
 fn ask_parts(features: &[u32], buffer: &[u8], e: EntryRow) -> Written
     ensures { λ r. ⌜ r ≡ partsSaid (now (features .entry)) (now (buffer .entry)) e ⌝ }
@@ -199,133 +121,6 @@ fn ask_parts(features: &[u32], buffer: &[u8], e: EntryRow) -> Written
         return Written::Refused(3);
     }
     Written::To(entry_len(features, buffer, e))
-}
-
-fn row_holds(about: About, features: &[u32], buffer: &[u8], e: EntryRow) -> bool
-    ensures { λ r. ⌜ r ≡ rowHolds about (now (features .entry)) (now (buffer .entry)) e ⌝ }
-{
-    match about {
-        About::Inside => entry_inside(features, buffer, e),
-        About::Short => strings_short(buffer, e),
-        About::Utf8 => strings_utf8(buffer, e),
-        About::Count => e.count <= 255,
-        About::Lengths => every_feature(
-            About::Lengths,
-            features,
-            buffer,
-            e.first as usize,
-            e.count as usize,
-        ),
-    }
-}
-
-fn entry_numbers(e: EntryRow) -> bool
-    ensures { λ r. ⌜ r ≡ entryNumbers e ⌝ }
-{
-    if 256 <= e.major {
-        return false;
-    }
-    if 256 <= e.minor {
-        return false;
-    }
-    if 256 <= e.patch {
-        return false;
-    }
-    if 65536 <= e.port {
-        return false;
-    }
-    if e.addrlen == 0 {
-        return true;
-    }
-    if e.addrlen == 8 {
-        return true;
-    }
-    e.addrlen == 20
-}
-
-fn is_inside(len: usize, at: u32, n: u32) -> bool
-    ensures { λ r. ⌜ r ≡ leb (at + n) len ⌝ }
-{
-    at as usize + n as usize <= len
-}
-
-fn address_inside(len: usize, e: EntryRow) -> bool
-    ensures { λ r. ⌜ r ≡ (eqb (e .addrlen) 0 || leb (e .addrat + (e .addrlen - 4)) len) ⌝ }
-{
-    if e.addrlen == 0 {
-        return true;
-    }
-    is_inside(len, e.addrat, address_size(e.addrlen))
-}
-
-fn entry_inside(features: &[u32], buffer: &[u8], e: EntryRow) -> bool
-    ensures { λ r. ⌜ r ≡ entryInside (lent [] (now (features .entry)) (now (buffer .entry))) e ⌝ }
-{
-    let first = e.first as usize;
-    let count = e.count as usize;
-    if !is_inside(buffer.len(), e.agentat, e.agentlen) {
-        return false;
-    }
-    if !is_inside(buffer.len(), e.nameat, e.namelen) {
-        return false;
-    }
-    if !address_inside(buffer.len(), e) {
-        return false;
-    }
-    if features.len() / 3 < first + count {
-        return false;
-    }
-    every_feature(About::Inside, features, buffer, first, count)
-}
-
-fn strings_short(buffer: &[u8], e: EntryRow) -> bool
-    ensures { λ r. ⌜ r ≡ shortStrings (entryOf (lent [] [] (now (buffer .entry))) e) ⌝ }
-{
-    let agent = part_at(buffer, e.agentat, e.agentlen);
-    if 255 < agent.len() {
-        return false;
-    }
-    let name = part_at(buffer, e.nameat, e.namelen);
-    name.len() <= 255
-}
-
-fn strings_utf8(buffer: &[u8], e: EntryRow) -> bool
-    ensures { λ r. ⌜ r ≡ utf8Strings (entryOf (lent [] [] (now (buffer .entry))) e) ⌝ }
-{
-    if !utf8::is_utf8(part_at(buffer, e.agentat, e.agentlen)) {
-        return false;
-    }
-    utf8::is_utf8(part_at(buffer, e.nameat, e.namelen))
-}
-
-// Is the question answered "yes" for each of count feature rows?
-fn every_feature(about: About, features: &[u32], buffer: &[u8], first: usize, count: usize) -> bool
-    requires { ⌜ 3 * (first + count) < 2 ^ 64 ⌝ }
-    ensures { λ r. ⌜ r ≡ every (featureHolds about (now (buffer .entry))) (rows (featureRow (now (features .entry))) first count) ⌝ }
-{
-    let mut k: usize = 0;
-    while k < count {
-        if !feature_holds(about, buffer, feature_at(features, first + k)) {
-            return false;
-        }
-        k += 1;
-    }
-    true
-}
-
-fn feature_holds(about: About, buffer: &[u8], f: FeatureRow) -> bool
-    ensures { λ r. ⌜ r ≡ featureHolds about (now (buffer .entry)) f ⌝ }
-{
-    match about {
-        About::Inside => is_inside(buffer.len(), f.at, f.len),
-        About::Lengths => {
-            let body = part_at(buffer, f.at, f.len);
-            body.len() <= LIMIT
-        }
-        About::Short => true,
-        About::Utf8 => true,
-        About::Count => true,
-    }
 }
 
 // ---- every question at once

@@ -6,9 +6,11 @@ use borrow.Author.Needs.{needs}
 use borrow.Author.Tests.{not-true, not-false}
 use Rattle.wire.specs.declared.Written.the-variants.{To}
 use Rattle.handshake.specs.Tables.{lent}
-use Rattle.entry_ask.specs.Asked.{numbersWhole, partsSaid}
-use Rattle.entry_ask.specs.AskedLaws.{row-few, row-outside, row-broken, row-parts}
-use Rattle.entry_ask.specs.declared.About.the-variants.{Count}
+use Rattle.entry_whole.specs.Whole.{numbersWhole}
+use Rattle.entry_ask.specs.Asked.{partsSaid}
+use Rattle.entry_questions.specs.QuestionsLaws.{row-few}
+use Rattle.entry_ask.specs.AskedLaws.{row-outside, row-broken, row-parts}
+use Rattle.entry_questions.specs.declared.About.the-variants.{Count}
 use Rattle.entry_ask.proofs.AnsweredLaws.{row-said}
 use Rattle.entry_ask.proofs.ask_row.Statement.{statement}
 use Rattle.entry_ask.proofs.ask_row.Tie as tie

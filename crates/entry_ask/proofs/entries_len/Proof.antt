@@ -13,9 +13,9 @@ use Rattle.handshake.specs.Value.{EntryValue, entryBytes}
 use Rattle.handshake.specs.Tables.{lent, rows, entryRow, entryOf, entriesOf}
 use Rattle.handshake.specs.TablesLaws.{every-row}
 use Rattle.handshake.specs.RowsLaws.{bytes-next, bytes-none}
-use Rattle.entry_ask.specs.Asked.{rowHolds}
-use Rattle.entry_ask.specs.AskedLaws.{own-entry, row-few}
-use Rattle.entry_ask.specs.declared.About.the-variants.{Count}
+use Rattle.entry_questions.specs.Questions.{rowHolds}
+use Rattle.entry_questions.specs.QuestionsLaws.{own-entry, row-few}
+use Rattle.entry_questions.specs.declared.About.the-variants.{Count}
 use Rattle.entry_ask.proofs.entries_len.Statement.{statement}
 use Rattle.entry_ask.proofs.entries_len.Tie as tie
 
