@@ -1,12 +1,13 @@
 -- What a row's tests tell of its questions, and what is said once every question is answered "yes".
 use Prim.Native.Nat.{ℕ, zero, suc, _+_, _/_, _≤_, _<_, min}
 use native.Mathlib.Omega.{arith}
-use mathlib.Core.Bool.{Bool, true, false}
+use mathlib.Core.Bool.{Bool, true, false, _&&_}
 use mathlib.Core.List.{List, [], flatMap}
 use mathlib.Core.Path.{_≡_, refl, sym, _∙_}
 use lib.ListN.{length}
 use borrow.Author.Tests.{le-leb, lt-ltb, le-ltb}
 use Rattle.wire.specs.Bytes.{every}
+use Rattle.wire.specs.BytesLaws.{and-true}
 use Rattle.wire.specs.UpTo.{UpTo}
 use Rattle.wire.specs.Output.{asked}
 use Rattle.wire.specs.declared.Written.the-variants.{To}
@@ -15,12 +16,15 @@ use Rattle.handshake.specs.declared.FeatureRow.{FeatureRow}
 use Rattle.handshake.specs.declared.EntryRow.{EntryRow}
 use Rattle.handshake.specs.Value.{entryBytes, shortStrings, utf8Strings, entriesAsked}
 use Rattle.handshake.specs.Tables.{Lent, lent, rows, featureRow, entryRow, entryRows, featureRows, bytesAt, featureOf, entryOf, entriesOf, wholeRows, featureNumbers, entryNumbers, tablesWhole, inside, featureInside, entryInside}
-use Rattle.entry_ask.specs.Asked.{featureHolds, rowHolds, numbersWhole, entriesSaid, rowSaid, partsSaid}
+use Rattle.entry_questions.specs.Questions.{featureHolds, rowHolds}
+use Rattle.entry_whole.specs.Whole.{numbersWhole}
+use Rattle.entry_ask.specs.Asked.{entriesSaid, rowSaid, partsSaid}
 use Rattle.entry_ask.specs.Answered.{FeatureAnswered, Answered, TablesAnswered, Fits}
-use Rattle.entry_ask.specs.AskedLaws.{own-utf8, few-count, rows-numbers, rows-inside, rows-short, rows-utf8, rows-count, rows-lengths, features-numbers, features-inside, features-lengths, row-parts}
+use Rattle.entry_questions.specs.QuestionsLaws.{own-utf8, few-count, rows-inside, rows-short, rows-utf8, rows-count, rows-lengths, features-inside, features-lengths}
+use Rattle.entry_ask.specs.AskedLaws.{row-parts}
 use Rattle.entry_ask.specs.LengthLaws.{length-bytesAt-le}
-use Rattle.entry_ask.specs.declared.About.{About}
-use Rattle.entry_ask.specs.declared.About.the-variants.{Numbers, Inside, Short, Utf8, Count, Lengths}
+use Rattle.entry_questions.specs.declared.About.{About}
+use Rattle.entry_questions.specs.declared.About.the-variants.{Inside, Short, Utf8, Count, Lengths}
 
 -- of an answer "no" nothing is told
 pub untold : {A : Type 0} → false ≡ true → A
@@ -36,8 +40,7 @@ every-of test f i (suc n) h =
 
 module _ (buffer : List ℕ) (f : FeatureRow) (small : f .id < 256) (within : f .at + f .len ≤ length buffer) (short : f .len ≤ limit) where
   feature-holds : (about : About) → featureHolds about buffer f ≡ true
-  unfolding featureHolds featureNumbers featureInside inside featureOf
-  feature-holds Numbers = lt-ltb (f .id) 256 small
+  unfolding featureHolds featureInside inside featureOf
   feature-holds Inside = le-leb (f .at + f .len) (length buffer) within
   feature-holds Short = refl
   feature-holds Utf8 = refl
@@ -45,7 +48,8 @@ module _ (buffer : List ℕ) (f : FeatureRow) (small : f .id < 256) (within : f 
   feature-holds Lengths = le-leb (length (bytesAt buffer (f .at) (f .len))) limit (omega (arith, length-bytesAt-le buffer (f .at) (f .len)))
 
   pub feature-answered : FeatureAnswered buffer f
-  feature-answered = record { holds = feature-holds }
+  unfolding featureNumbers
+  feature-answered = record { numbers = lt-ltb (f .id) 256 small; holds = feature-holds }
 
 -- ---- a row
 
@@ -57,7 +61,7 @@ module _ (features buffer : List ℕ) (r : EntryRow) (numbers : entryNumbers r �
 
   whole-numbers : numbersWhole features r ≡ true
   unfolding numbersWhole
-  whole-numbers = rw (numbers, le-ltb (length features / 3) (r .first + r .count) (fits .range)) (sym (features-numbers buffer _) ∙ own-hold Numbers)
+  whole-numbers = rw (numbers, le-ltb (length features / 3) (r .first + r .count) (fits .range)) (every-of featureNumbers (featureRow features) (r .first) (r .count) (λ k g l. own .each k g l .numbers))
 
   all-inside : entryInside (lent [] features buffer) r ≡ true
   unfolding entryInside inside
@@ -79,7 +83,6 @@ module _ (features buffer : List ℕ) (r : EntryRow) (numbers : entryNumbers r �
 
   row-holds : (about : About) → rowHolds about features buffer r ≡ true
   unfolding rowHolds
-  row-holds Numbers = numbers
   row-holds Inside = all-inside
   row-holds Short = all-short
   row-holds Utf8 = sym (own-utf8 (lent [] features buffer) r) ∙ text
@@ -107,9 +110,17 @@ module _ (l : Lent) (all : UpTo (λ i. Answered (l .features) (l .buffer) (entry
       every-of (rowHolds about (l .features) (l .buffer)) (entryRow (l .entries)) 0 (length (l .entries) / 12)
       (λ (k : ℕ) (g : 0 ≤ k) (h : k < 0 + length (l .entries) / 12). all .each k g (omega arith) .holds about)
 
-  pub tables-answered : wholeRows 12 (l .entries) ≡ true → wholeRows 3 (l .features) ≡ true → every featureNumbers (featureRows l) ≡ true → TablesAnswered l
+  row-numbers : every entryNumbers (entryRows l) ≡ true
+  unfolding numbersWhole
+  row-numbers =
+      every-of entryNumbers (entryRow (l .entries)) 0 (length (l .entries) / 12)
+      (λ (k : ℕ) (g : 0 ≤ k) (h : k < 0 + length (l .entries) / 12). and-true (entryNumbers (entryRow (l .entries) k)) _ (all .each k g (omega arith) .whole) .0)
+
+  pub tables-answered : wholeRows 12 (l .entries) ≡ true → wholeRows 3 (l .features) && every featureNumbers (featureRows l) ≡ true → TablesAnswered l
   unfolding tablesWhole
-  tables-answered a b ids = record { whole = rw (a, b, sym (rows-numbers l) ∙ rows-hold Numbers, ids); holds = rows-hold }
+  tables-answered a b =
+      let p = and-true (wholeRows 3 (l .features)) (every featureNumbers (featureRows l)) b in
+      record { whole = rw (a, p .0, row-numbers, p .1); holds = rows-hold }
 
 -- what is said of all entries
 pub tables-said : (l : Lent) → TablesAnswered l → entriesSaid l ≡ To (min (length (flatMap entryBytes (entriesOf l))) (limit + 1))

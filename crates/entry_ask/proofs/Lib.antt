@@ -1,2 +1,1 @@
-pub mod ClampLaws
 pub mod AnsweredLaws

@@ -1,5 +1,5 @@
 -- Every question answered "yes" at once, as an accepted row has it.
-use Prim.Native.Nat.{ℕ, _+_, _-_, _≤_, _<_}
+use Prim.Native.Nat.{ℕ, _+_, _-_, _≤_}
 use mathlib.Core.Bool.{true, _||_}
 use mathlib.Core.List.{List}
 use mathlib.Core.Path.{_≡_}
@@ -7,11 +7,13 @@ use lib.Dec.{eqb, leb}
 use Rattle.wire.specs.Bytes.{every}
 use Rattle.handshake.specs.declared.FeatureRow.{FeatureRow}
 use Rattle.handshake.specs.declared.EntryRow.{EntryRow}
-use Rattle.handshake.specs.Tables.{Lent, entryRows, tablesWhole}
-use Rattle.entry_ask.specs.Asked.{featureHolds, rowHolds, numbersWhole}
-use Rattle.entry_ask.specs.declared.About.{About}
+use Rattle.handshake.specs.Tables.{Lent, entryRows, featureNumbers, tablesWhole}
+use Rattle.entry_questions.specs.Questions.{featureHolds, rowHolds}
+use Rattle.entry_whole.specs.Whole.{numbersWhole}
+use Rattle.entry_questions.specs.declared.About.{About}
 
 pub record FeatureAnswered (buffer : List ℕ) (f : FeatureRow) : Type 0 where
+  pub numbers : featureNumbers f ≡ true
   pub holds : (about : About) → featureHolds about buffer f ≡ true
 
 pub record Answered (features buffer : List ℕ) (r : EntryRow) : Type 0 where

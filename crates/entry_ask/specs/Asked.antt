@@ -1,52 +1,18 @@
--- What is asked of the entries of a table, and what is said once it is asked (document 01, "Questions", Writers).
-use Prim.Native.Nat.{ℕ, _+_, _/_, min}
-use mathlib.Core.Bool.{Bool, true, cond, _&&_, _||_}
+-- What is said of the entries of a table (document 01, "Questions", Writers): the number of the first question answered "no", or how many bytes
+-- are written.
+use Prim.Native.Nat.{ℕ, _+_, min}
 use mathlib.Core.List.{List, [], _∷_, flatMap}
-use lib.Dec.{eqb, leb, ltb}
 use lib.ListN.{length}
 use Rattle.wire.specs.Bytes.{every}
 use Rattle.wire.specs.Output.{ask, asked}
 use Rattle.wire.specs.declared.Written.{Written}
-use Rattle.wire.specs.declared.Written.the-variants.{To, Refused}
+use Rattle.wire.specs.declared.Written.the-variants.{To}
 use Rattle.vlq.specs.Vlq.{limit}
-use Rattle.handshake.specs.declared.FeatureRow.{FeatureRow}
 use Rattle.handshake.specs.declared.EntryRow.{EntryRow}
-use Rattle.handshake.specs.Value.{entryBytes, shortStrings, utf8Strings, fewFeatures, lengthsWithin, entriesAsked}
-use Rattle.handshake.specs.Tables.{Lent, lent, rows, featureRow, entryRow, entryRows, featureOf, entryOf, entriesOf, featureNumbers, entryNumbers, tablesWhole, featureInside, entryInside}
+use Rattle.handshake.specs.Value.{entryBytes, entriesAsked}
+use Rattle.handshake.specs.Tables.{Lent, lent, entryRows, entryOf, entriesOf, tablesWhole, entryInside}
 use Rattle.handshake.specs.Writes.{entryAt, rowAsked}
-use Rattle.entry_ask.specs.declared.About.{About}
-use Rattle.entry_ask.specs.declared.About.the-variants.{Numbers, Inside, Short, Utf8, Count, Lengths}
-
--- ---- a question of one row
-
-unfoldable pub featureHolds : About → List ℕ → FeatureRow → Bool
-featureHolds Numbers buffer f = featureNumbers f
-featureHolds Inside buffer f = featureInside buffer f
-featureHolds Short buffer f = true
-featureHolds Utf8 buffer f = true
-featureHolds Count buffer f = true
-featureHolds Lengths buffer f = leb (length (featureOf buffer f .body)) limit
-
-unfoldable pub rowHolds : About → List ℕ → List ℕ → EntryRow → Bool
-rowHolds Numbers features buffer r = entryNumbers r
-rowHolds Inside features buffer r = entryInside (lent [] features buffer) r
-rowHolds Short features buffer r = shortStrings (entryOf (lent [] features buffer) r)
-rowHolds Utf8 features buffer r = utf8Strings (entryOf (lent [] features buffer) r)
-rowHolds Count features buffer r = fewFeatures (entryOf (lent [] features buffer) r)
-rowHolds Lengths features buffer r = lengthsWithin (entryOf (lent [] features buffer) r)
-
--- 16 of one row: its numbers, and the ids of its feature rows if they are in their table
-unfoldable pub numbersWhole : List ℕ → EntryRow → Bool
-numbersWhole features r =
-    entryNumbers r
-    && (ltb (length features / 3) (r .first + r .count)
-    || every featureNumbers (rows (featureRow features) (r .first) (r .count)))
-
--- of row k if it is in its table; where it is not, or its feature rows are not, 12 refuses
-unfoldable pub rowWhole : Lent → ℕ → Bool
-rowWhole l k = leb (length (l .entries) / 12) k || numbersWhole (l .features) (entryRow (l .entries) k)
-
--- ---- what is said: the number of the first question answered "no", or how many bytes are written
+use Rattle.entry_whole.specs.Whole.{rowWhole}
 
 -- of all entries, at most limit + 1
 unfoldable pub entriesSaid : Lent → Written
@@ -69,8 +35,3 @@ partsSaid features buffer r =
     asked
     (ask 12 (entryInside (lent [] features buffer) r) ∷ entriesAsked (entryOf (lent [] features buffer) r ∷ []))
     (To (length (entryBytes (entryOf (lent [] features buffer) r))))
-
--- with the questions of the place (after 16) and of the room (last), for an output of len bytes
-unfoldable pub placed : ℕ → ℕ → Written → Written
-placed len at (To n) = cond (leb at len) (cond (leb (at + n) len) (To (at + n)) (Refused 14)) (Refused 12)
-placed len at (Refused m) = cond (eqb m 16) (Refused 16) (cond (leb at len) (Refused m) (Refused 12))

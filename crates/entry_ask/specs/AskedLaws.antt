@@ -1,140 +1,21 @@
--- Laws of the questions: each question over all rows as the code asks it, 16 of one row where it holds of both tables, the place and the room
--- beside the other questions.
-use Prim.Native.Nat.{ℕ, _+_, _/_, _≤_, _<_}
-use native.Mathlib.Omega.{arith}
-use mathlib.Core.Bool.{Bool, true, false, _||_}
-use mathlib.Core.List.{List, [], _∷_}
-use mathlib.Core.Logic.{⊎-elim}
-use mathlib.Core.Path.{_≡_, refl, sym, ap, _∙_}
-use lib.Dec.{leb, ltb}
-use lib.ListN.{length, length-map}
-use borrow.Author.Tests.{le-leb, lt-leb, leb-true, lt-ltb, le-ltb}
-use Rattle.wire.specs.Bytes.{every}
-use Rattle.wire.specs.BytesLaws.{and-true, every-map}
-use Rattle.wire.specs.Numbers.{lt-or-ge}
+-- Laws of what is said of one row, and the place and the room beside its questions.
+use Prim.Native.Nat.{ℕ, _/_, _≤_, _<_}
+use mathlib.Core.Bool.{Bool, true, false}
+use mathlib.Core.List.{[], _∷_}
+use mathlib.Core.Path.{_≡_, refl}
+use lib.ListN.{length}
+use borrow.Author.Tests.{le-leb, lt-leb, lt-ltb, le-ltb}
 use Rattle.wire.specs.Output.{ask, asked}
 use Rattle.wire.specs.declared.Written.the-variants.{To, Refused}
-use Rattle.vlq_write.specs.Asked.{writtenFor}
-use Rattle.vlq.specs.Vlq.{limit}
-use Rattle.handshake.specs.declared.FeatureRow.{FeatureRow}
-use Rattle.handshake.specs.declared.EntryRow.{EntryRow}
-use Rattle.handshake.specs.Value.{EntryValue, shortStrings, utf8Strings, fewFeatures, lengthsWithin, entriesAsked}
-use Rattle.handshake.specs.Tables.{Lent, lent, featureRow, entryRow, entryRows, featureRows, ownRows, featureOf, entryOf, entriesOf, wholeRows, featureNumbers, entryNumbers, tablesWhole, featureInside, entryInside}
-use Rattle.handshake.specs.TablesLaws.{every-row}
+use Rattle.output_ask.specs.Asked.{writtenFor, placed}
+use Rattle.output_ask.specs.AskedLaws.{Without16, placed-asked}
+use Rattle.handshake.specs.Value.{entriesAsked}
+use Rattle.handshake.specs.Tables.{Lent, entryRow, tablesWhole}
 use Rattle.handshake.specs.Writes.{rowInside, rowAsked}
-use Rattle.handshake.specs.RowsLaws.{length-rows, every-rows}
-use Rattle.entry_ask.specs.Asked.{featureHolds, rowHolds, numbersWhole, rowWhole, entrySaid, rowSaid, partsSaid, placed}
-use Rattle.entry_ask.specs.declared.About.{About}
-use Rattle.entry_ask.specs.declared.About.the-variants.{Numbers, Inside, Short, Utf8, Count, Lengths}
-
--- ---- a row is known by the feature table and the buffer
-
-pub own-entry : (l : Lent) (r : EntryRow) → entryOf (lent [] (l .features) (l .buffer)) r ≡ entryOf l r
-unfolding entryOf
-own-entry l r = refl
-
-pub own-inside : (l : Lent) (r : EntryRow) → entryInside (lent [] (l .features) (l .buffer)) r ≡ entryInside l r
-unfolding entryInside
-own-inside l r = refl
-
-pub length-features : (l : Lent) (r : EntryRow) → length (entryOf l r .features) ≡ r .count
-unfolding entryOf
-length-features l r = length-map (ownRows l r) (featureOf (l .buffer)) ∙ length-rows (featureRow (l .features)) (r .first) (r .count)
-
-pub own-short : (l : Lent) (r : EntryRow) → shortStrings (entryOf (lent [] [] (l .buffer)) r) ≡ shortStrings (entryOf l r)
-unfolding shortStrings entryOf
-own-short l r = refl
-
-pub own-utf8 : (l : Lent) (r : EntryRow) → utf8Strings (entryOf (lent [] [] (l .buffer)) r) ≡ utf8Strings (entryOf l r)
-unfolding utf8Strings entryOf
-own-utf8 l r = refl
-
-pub few-count : (l : Lent) (r : EntryRow) → fewFeatures (entryOf l r) ≡ leb (r .count) 255
-unfolding fewFeatures
-few-count l r = ap (λ (n : ℕ). leb n 255) (length-features l r)
-
-pub row-few : (features buffer : List ℕ) (r : EntryRow) → rowHolds Count features buffer r ≡ true → r .count ≤ 255
-unfolding rowHolds
-row-few features buffer r h = leb-true (r .count) 255 (sym (few-count (lent [] features buffer) r) ∙ h)
-
--- ---- each question over all rows
-
-every-same : {A : Type 0} (t u : A → Bool) → ((a : A) → t a ≡ u a) → (l : List A) → every t l ≡ every u l
-unfolding every
-every-same t u h [] = refl
-every-same t u h (a ∷ l) = rw (h a, every-same t u h l)
-
-module _ (l : Lent) where
-  pub rows-numbers : every (rowHolds Numbers (l .features) (l .buffer)) (entryRows l) ≡ every entryNumbers (entryRows l)
-  unfolding rowHolds
-  rows-numbers = every-same _ _ (λ r. refl) (entryRows l)
-
-  pub rows-inside : every (rowHolds Inside (l .features) (l .buffer)) (entryRows l) ≡ every (entryInside l) (entryRows l)
-  unfolding rowHolds
-  rows-inside = every-same _ _ (λ r. own-inside l r) (entryRows l)
-
-  -- of the values
-  of-values : (about : About) (test : EntryValue → Bool) → ((r : EntryRow) → rowHolds about (l .features) (l .buffer) r ≡ test (entryOf l r))
-      → every (rowHolds about (l .features) (l .buffer)) (entryRows l) ≡ every test (entriesOf l)
-  unfolding entriesOf
-  of-values about test h = every-same _ (λ r. test (entryOf l r)) h (entryRows l) ∙ sym (every-map test (entryOf l) (entryRows l))
-
-  pub rows-short : every (rowHolds Short (l .features) (l .buffer)) (entryRows l) ≡ every shortStrings (entriesOf l)
-  unfolding rowHolds
-  rows-short = of-values Short shortStrings (λ r. ap shortStrings (own-entry l r))
-
-  pub rows-utf8 : every (rowHolds Utf8 (l .features) (l .buffer)) (entryRows l) ≡ every utf8Strings (entriesOf l)
-  unfolding rowHolds
-  rows-utf8 = of-values Utf8 utf8Strings (λ r. ap utf8Strings (own-entry l r))
-
-  pub rows-count : every (rowHolds Count (l .features) (l .buffer)) (entryRows l) ≡ every fewFeatures (entriesOf l)
-  unfolding rowHolds
-  rows-count = of-values Count fewFeatures (λ r. ap fewFeatures (own-entry l r))
-
-  pub rows-lengths : every (rowHolds Lengths (l .features) (l .buffer)) (entryRows l) ≡ every lengthsWithin (entriesOf l)
-  unfolding rowHolds
-  rows-lengths = of-values Lengths lengthsWithin (λ r. ap lengthsWithin (own-entry l r))
-
-module _ (buffer : List ℕ) (fs : List FeatureRow) where
-  pub features-numbers : every (featureHolds Numbers buffer) fs ≡ every featureNumbers fs
-  unfolding featureHolds
-  features-numbers = every-same _ _ (λ f. refl) fs
-
-  pub features-inside : every (featureHolds Inside buffer) fs ≡ every (featureInside buffer) fs
-  unfolding featureHolds
-  features-inside = every-same _ _ (λ f. refl) fs
-
-pub features-lengths : (l : Lent) (r : EntryRow) → every (featureHolds Lengths (l .buffer)) (ownRows l r) ≡ lengthsWithin (entryOf l r)
-unfolding featureHolds lengthsWithin entryOf
-features-lengths l r = every-same _ _ (λ f. refl) (ownRows l r) ∙ sym (every-map (λ f. leb (length (f .body)) limit) (featureOf (l .buffer)) (ownRows l r))
-
--- ---- 16 of both tables, and of one row
-
-or-left : (t u : Bool) → t ≡ true → t || u ≡ true
-or-left t u e = rw e
-
-or-second : (t u : Bool) → u ≡ true → t || u ≡ true
-or-second true u e = refl
-or-second false u e = e
-
-pub whole-row : (l : Lent) (k : ℕ) → tablesWhole l ≡ true → rowWhole l k ≡ true
-unfolding rowWhole numbersWhole tablesWhole
-whole-row l k whole =
-    let n = length (l .entries) / 12 in
-    let m = length (l .features) / 3 in
-    let r = entryRow (l .entries) k in
-    let a = and-true (wholeRows 12 (l .entries)) _ whole .1 in
-    let b = and-true (wholeRows 3 (l .features)) _ a .1 in
-    let d = and-true (every entryNumbers (entryRows l)) (every featureNumbers (featureRows l)) b in
-    ⊎-elim
-    (λ (h : k < n).
-    let e : entryNumbers r ≡ true = every-row entryNumbers (entryRow (l .entries)) n 0 k (d .0) (omega arith) (omega arith) in
-    or-second (leb n k) _ (rw e (⊎-elim
-    (λ (g : m < r .first + r .count). or-left (ltb m (r .first + r .count)) _ (lt-ltb m (r .first + r .count) g))
-    (λ (g : r .first + r .count ≤ m). or-second (ltb m (r .first + r .count)) _ (every-rows featureNumbers (featureRow (l .features)) m (r .first) (r .count) (d .1) g))
-    (lt-or-ge m (r .first + r .count)))))
-    (λ (h : n ≤ k). or-left (leb n k) _ (le-leb n k h))
-    (lt-or-ge k n)
+use Rattle.entry_whole.specs.Whole.{numbersWhole, rowWhole}
+use Rattle.entry_whole.specs.WholeLaws.{whole-row}
+use Rattle.entry_questions.specs.QuestionsLaws.{own-entry, own-inside}
+use Rattle.entry_ask.specs.Asked.{entrySaid, rowSaid, partsSaid}
 
 -- what is said of row k: outside its table, with a number out of range, and otherwise
 module _ (l : Lent) (k : ℕ) where
@@ -162,19 +43,7 @@ module _ (l : Lent) (k : ℕ) where
 
 -- ---- the place and the room
 
-placed-all : (len at n : ℕ) (a b c d e f : Bool)
-    → placed len at (asked (ask 16 a ∷ ask 12 b ∷ ask 13 c ∷ ask 4 d ∷ ask 15 e ∷ ask 3 f ∷ []) (To n))
-    ≡ writtenFor (ask 16 a ∷ []) (ask 12 b ∷ ask 13 c ∷ ask 4 d ∷ ask 15 e ∷ ask 3 f ∷ []) len at n
-unfolding placed asked
-placed-all len at n false b c d e f = refl
-placed-all len at n true false c d e f = refl
-placed-all len at n true true false d e f = refl
-placed-all len at n true true true false e f = refl
-placed-all len at n true true true true false f = refl
-placed-all len at n true true true true true false = refl
-placed-all len at n true true true true true true = refl
-
 pub placed-row : (len at n : ℕ) (whole : Bool) (l : Lent) (k : ℕ)
     → placed len at (asked (ask 16 whole ∷ rowAsked l k) (To n)) ≡ writtenFor (ask 16 whole ∷ []) (rowAsked l k) len at n
-unfolding entriesAsked
-placed-row len at n whole l k = placed-all len at n whole _ _ _ _ _
+unfolding entriesAsked Without16
+placed-row len at n whole l k = placed-asked len at n whole (rowAsked l k) (refl, (refl, (refl, (refl, (refl, tt)))))

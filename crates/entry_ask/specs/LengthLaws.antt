@@ -1,26 +1,19 @@
--- How many bytes an entry, its address and its features are written as; and the bytes of the buffer that a row names.
-use Prim.Native.Nat.{ℕ, zero, suc, _+_, _-_, _≤_, _<_, min}
+-- How many bytes an entry, its address and its features are written as.
+use Prim.Native.Nat.{ℕ, _+_, _-_, _≤_}
 use native.Mathlib.Omega.{arith}
-use mathlib.Core.Bool.{Bool, true, false, cond}
 use mathlib.Core.List.{List, [], _∷_, _++_, map, flatMap, append-assoc}
-use mathlib.Core.Logic.{_⊎_, inl, inr, ⊎-elim}
-use mathlib.Core.Path.{_≡_, refl, sym, ap, _∙_}
-use lib.Dec.{eqb}
-use lib.ListN.{length, getD, take, drop, length-append, length-take, length-drop, drop-of-length-le, length-map}
-use lib.Seq.{take-all, take-nil}
-use borrow.Author.Tests.{eq-eqb, ne-eqb}
+use mathlib.Core.Path.{_≡_, ap, _∙_}
+use lib.ListN.{length, drop, length-append, length-take, length-map}
+use borrow.Author.Tests.{ne-eqb}
 use Rattle.wire.specs.Bytes.{bigEndianBytes}
 use Rattle.wire.specs.BytesLaws.{length-bigEndianBytes}
-use Rattle.wire.specs.Numbers.{lt-or-ge}
 use Rattle.vlq.specs.Vlq.{vlqBytes}
 use Rattle.vlq.specs.ShortString.{shortStringBytes}
-use Rattle.types.specs.declared.Address.{Address}
-use Rattle.types.specs.declared.Address.the-variants.{None, V4, V6}
 use Rattle.handshake.specs.declared.FeatureRow.{FeatureRow}
 use Rattle.handshake.specs.declared.EntryRow.{EntryRow}
 use Rattle.handshake.specs.Entry.{addressOf}
-use Rattle.handshake.specs.Value.{EntryValue, featureBytes, versionBytes, addressBytes, entryBytes}
-use Rattle.handshake.specs.Tables.{Lent, rows, featureRow, ownRows, bytesAt, featureOf, entryOf}
+use Rattle.handshake.specs.Value.{featureBytes, versionBytes, addressBytes, entryBytes}
+use Rattle.handshake.specs.Tables.{Lent, featureRow, ownRows, bytesAt, featureOf, entryOf}
 use Rattle.handshake.specs.RowsLaws.{length-rows}
 
 -- agent, version and name
@@ -28,23 +21,6 @@ unfoldable pub headBytes : List ℕ → EntryRow → List ℕ
 headBytes buffer r =
     shortStringBytes (bytesAt buffer (r .agentat) (r .agentlen))
     ++ ((r .major ∷ r .minor ∷ r .patch ∷ []) ++ shortStringBytes (bytesAt buffer (r .nameat) (r .namelen)))
-
--- n bytes from a place on, as far as they are there, without a place past the end
-pub part-clamped : (s : List ℕ) (at n : ℕ) → take (min (at + n) (length s) - min at (length s)) (drop (min at (length s)) s) ≡ bytesAt s at n
-part-clamped s at n =
-    ⊎-elim
-    (λ (h : length s < at).
-    let e : min at (length s) ≡ length s = omega arith in
-    rw (e, drop-of-length-le s {i = at} (omega arith), drop-of-length-le s {i = length s} (omega arith)) (take-nil (min (at + n) (length s) - length s) ∙ sym (take-nil n)))
-    (λ (h : at ≤ length s).
-    let e : min at (length s) ≡ at = omega arith in
-    rw e (⊎-elim
-    (λ (g : length s < at + n).
-    let d : length (drop at s) ≡ length s - at = length-drop at s in
-    take-all (min (at + n) (length s) - at) (drop at s) (omega (arith, d)) ∙ sym (take-all n (drop at s) (omega (arith, d))))
-    (λ (g : at + n ≤ length s). let m : min (at + n) (length s) - at ≡ n = omega arith in rw m)
-    (lt-or-ge (length s) (at + n))))
-    (lt-or-ge (length s) at)
 
 pub length-bytesAt-le : (s : List ℕ) (at n : ℕ) → length (bytesAt s at n) ≤ n
 length-bytesAt-le s at n = omega (arith, length-take n (drop at s))

@@ -1,19 +1,34 @@
 // What is asked of entries before they are written from a table of rows beside a lent buffer (document 01, "Questions", Writers), and how long
 // they are: each question over all rows before the next.
-ghost use mathlib.Core.Bool.{_||_, true};
+ghost use mathlib.Core.Bool.{true};
 ghost use mathlib.Core.Path.{_≡_};
 ghost use mathlib.Core.List.{List, [], map, flatMap};
 ghost use Prim.Native.Nat.{ℕ, _+_, _-_, _*_, _/_, _^_, _≤_, _<_, min};
-ghost use lib.Dec.{eqb, leb};
-ghost use lib.ListN.{length, getD};
+ghost use lib.ListN.{length};
 ghost use Rattle.wire.specs.Bytes.{every};
 ghost use Rattle.vlq.specs.Vlq.{limit};
 ghost use Rattle.handshake.specs.Entry.{addressOf};
-ghost use Rattle.handshake.specs.Value.{addressBytes, featureBytes, entryBytes, shortStrings, utf8Strings};
-ghost use Rattle.handshake.specs.Tables.{lent, rows, featureRow, entryRow, bytesAt, featureOf, entryOf, entriesOf, featureNumbers, entryNumbers, tablesWhole, entryInside};
+ghost use Rattle.handshake.specs.Value.{addressBytes, featureBytes, entryBytes};
+ghost use Rattle.handshake.specs.Tables.{lent, rows, featureRow, entryRow, featureOf, entryOf, entriesOf};
 ghost use Rattle.wire.specs.UpTo.{UpTo};
 ghost use Rattle.entry_ask.specs.Answered.{FeatureAnswered, Answered, TablesAnswered, Fits};
-ghost use Rattle.entry_ask.specs.Asked.{numbersWhole, rowHolds, featureHolds, entriesSaid, entrySaid, rowSaid, partsSaid, placed};
+ghost use Rattle.entry_questions.specs.Questions.{rowHolds};
+ghost use Rattle.entry_ask.specs.Asked.{entriesSaid, entrySaid, rowSaid, partsSaid};
+use entry_questions::About;
+use entry_questions::address_inside;
+use entry_questions::entry_inside;
+use entry_questions::every_row;
+use entry_questions::is_inside;
+use entry_questions::row_holds;
+use entry_questions::strings_short;
+use entry_questions::strings_utf8;
+use entry_rows::entry_at;
+use entry_rows::feature_at;
+use entry_rows::part_at;
+use entry_whole::entry_numbers;
+use entry_whole::features_whole;
+use entry_whole::row_whole;
+use entry_whole::tables_whole;
 use handshake::EntryRow;
 use handshake::FeatureRow;
 use vlq_write::vlq_len;
@@ -21,16 +36,6 @@ use wire::Written;
 
 // The most that a length may be.
 const LIMIT: usize = 16_388_608;
-
-// A question that is asked of each row.
-enum About {
-    Numbers,
-    Inside,
-    Short,
-    Utf8,
-    Count,
-    Lengths,
-}
 
 // What is said of all entries of the table: the refusal number, or how many bytes they are written as, LIMIT + 1 where they are more.
 pub fn ask_entries(entries: &[u32], features: &[u32], buffer: &[u8]) -> Written
@@ -59,165 +64,14 @@ pub fn ask_row(entries: &[u32], features: &[u32], buffer: &[u8], k: usize) -> Wr
     if entries.len() / 12 <= k {
         return Written::Refused(12);
     }
-    let e = whole_entry(entries, k);
+    let e = entry_at(entries, k);
     if row_ready(features, buffer, e) {
         return Written::To(entry_len(features, buffer, e));
     }
-    if !row_whole(features, buffer, e) {
+    if !row_whole(features, e) {
         return Written::Refused(16);
     }
     ask_parts(features, buffer, e)
-}
-
-// Adds the place's and the room's question to what is said of a value: To has how many bytes it is written as.
-pub fn ask_place(len: usize, at: usize, said: Written) -> Written
-    ensures { λ r. ⌜ r ≡ placed len at said ⌝ }
-{
-    match said {
-        Written::To(n) => ask_room(len, at, n),
-        Written::Refused(m) => {
-            if m == 16 {
-                return Written::Refused(16);
-            }
-            if len < at {
-                return Written::Refused(12);
-            }
-            Written::Refused(m)
-        }
-    }
-}
-
-// Has each table whole rows, with numbers as they should be (question 16)?
-pub fn tables_whole(entries: &[u32], features: &[u32], buffer: &[u8]) -> bool
-    ensures { λ r. ⌜ r ≡ tablesWhole (lent (now (entries .entry)) (now (features .entry)) (now (buffer .entry))) ⌝ }
-{
-    if entries.len() % 12 != 0 {
-        return false;
-    }
-    if features.len() % 3 != 0 {
-        return false;
-    }
-    if !every_row(About::Numbers, entries, features, buffer) {
-        return false;
-    }
-    every_feature(About::Numbers, features, buffer, 0, features.len() / 3)
-}
-
-// The bytes of the buffer that a row names, as far as they are there.
-pub fn part_at(buffer: &[u8], at: u32, len: u32) -> &[u8]
-    ensures { λ r. ⌜ now r ≡ bytesAt (now (buffer .entry)) at len ⌝ }
-{
-    let start = min_of(at as usize, buffer.len());
-    let end = min_of(at as usize + len as usize, buffer.len());
-    &buffer[start..end]
-}
-
-// How many bytes an address with the length byte L has.
-pub fn address_size(l: u32) -> u32
-    ensures { λ r. ⌜ r ≡ l - 4 ⌝ }
-{
-    if l < 4 { 0 } else { l - 4 }
-}
-
-// ---- rows
-
-// Row k of an entry table, with 0 for each number that is not there.
-pub fn entry_at(t: &[u32], k: usize) -> EntryRow
-    ensures { λ r. ⌜ r ≡ entryRow (now (t .entry)) k ⌝ }
-{
-    if k < t.len() / 12 {
-        whole_entry(t, k)
-    } else {
-        partial_entry(t, k)
-    }
-}
-
-fn whole_entry(t: &[u32], k: usize) -> EntryRow
-    requires { ⌜ 12 * k + 12 ≤ length (now t) ⌝ }
-    ensures { λ r. ⌜ r ≡ entryRow (now (t .entry)) k ⌝ }
-{
-    let b = 12 * k;
-    EntryRow {
-        agentat: t[b],
-        agentlen: t[b + 1],
-        major: t[b + 2],
-        minor: t[b + 3],
-        patch: t[b + 4],
-        nameat: t[b + 5],
-        namelen: t[b + 6],
-        addrlen: t[b + 7],
-        addrat: t[b + 8],
-        port: t[b + 9],
-        first: t[b + 10],
-        count: t[b + 11],
-    }
-}
-
-fn partial_entry(t: &[u32], k: usize) -> EntryRow
-    ensures { λ r. ⌜ r ≡ entryRow (now (t .entry)) k ⌝ }
-{
-    let b = 12 * min_of(k, t.len() / 12 + 1);
-    EntryRow {
-        agentat: number_at(t, b),
-        agentlen: number_at(t, b + 1),
-        major: number_at(t, b + 2),
-        minor: number_at(t, b + 3),
-        patch: number_at(t, b + 4),
-        nameat: number_at(t, b + 5),
-        namelen: number_at(t, b + 6),
-        addrlen: number_at(t, b + 7),
-        addrat: number_at(t, b + 8),
-        port: number_at(t, b + 9),
-        first: number_at(t, b + 10),
-        count: number_at(t, b + 11),
-    }
-}
-
-// Row k of a feature table, with 0 for each number that is not there.
-pub fn feature_at(t: &[u32], k: usize) -> FeatureRow
-    ensures { λ r. ⌜ r ≡ featureRow (now (t .entry)) k ⌝ }
-{
-    if k < t.len() / 3 {
-        whole_feature(t, k)
-    } else {
-        partial_feature(t, k)
-    }
-}
-
-fn whole_feature(t: &[u32], k: usize) -> FeatureRow
-    requires { ⌜ 3 * k + 3 ≤ length (now t) ⌝ }
-    ensures { λ r. ⌜ r ≡ featureRow (now (t .entry)) k ⌝ }
-{
-    let b = 3 * k;
-    FeatureRow {
-        id: t[b],
-        at: t[b + 1],
-        len: t[b + 2],
-    }
-}
-
-fn partial_feature(t: &[u32], k: usize) -> FeatureRow
-    ensures { λ r. ⌜ r ≡ featureRow (now (t .entry)) k ⌝ }
-{
-    let b = 3 * min_of(k, t.len() / 3 + 1);
-    FeatureRow {
-        id: number_at(t, b),
-        at: number_at(t, b + 1),
-        len: number_at(t, b + 2),
-    }
-}
-
-// A number of a table; 0 outside.
-fn number_at(t: &[u32], i: usize) -> u32
-    ensures { λ r. ⌜ r ≡ getD (now (t .entry)) i 0 ⌝ }
-{
-    if i < t.len() { t[i] } else { 0 }
-}
-
-fn min_of(a: usize, b: usize) -> usize
-    ensures { λ r. ⌜ r ≡ min a b ⌝ }
-{
-    if a <= b { a } else { b }
 }
 
 // ---- questions
@@ -247,39 +101,6 @@ fn ask_in_order(entries: &[u32], features: &[u32], buffer: &[u8]) -> Written
     Written::To(entries_len(entries, features, buffer))
 }
 
-// Is the question answered "yes" for each row of the entry table?
-fn every_row(about: About, entries: &[u32], features: &[u32], buffer: &[u8]) -> bool
-    ensures { λ r. ⌜ r ≡ every (rowHolds about (now (features .entry)) (now (buffer .entry))) (rows (entryRow (now (entries .entry))) 0 (length (now (entries .entry)) / 12)) ⌝ }
-{
-    let n = entries.len() / 12;
-    let mut k: usize = 0;
-    while k < n {
-        if !row_holds(about, features, buffer, entry_at(entries, k)) {
-            return false;
-        }
-        k += 1;
-    }
-    true
-}
-
-fn row_whole(features: &[u32], buffer: &[u8], e: EntryRow) -> bool
-    ensures { λ r. ⌜ r ≡ numbersWhole (now (features .entry)) e ⌝ }
-{
-    if !entry_numbers(e) {
-        return false;
-    }
-    if features.len() / 3 < e.first as usize + e.count as usize {
-        return true;
-    }
-    every_feature(
-        About::Numbers,
-        features,
-        buffer,
-        e.first as usize,
-        e.count as usize,
-    )
-}
-
 // The questions of one row after that of its numbers.
 fn ask_parts(features: &[u32], buffer: &[u8], e: EntryRow) -> Written
     ensures { λ r. ⌜ r ≡ partsSaid (now (features .entry)) (now (buffer .entry)) e ⌝ }
@@ -302,148 +123,6 @@ fn ask_parts(features: &[u32], buffer: &[u8], e: EntryRow) -> Written
     Written::To(entry_len(features, buffer, e))
 }
 
-fn row_holds(about: About, features: &[u32], buffer: &[u8], e: EntryRow) -> bool
-    ensures { λ r. ⌜ r ≡ rowHolds about (now (features .entry)) (now (buffer .entry)) e ⌝ }
-{
-    match about {
-        About::Numbers => entry_numbers(e),
-        About::Inside => entry_inside(features, buffer, e),
-        About::Short => strings_short(buffer, e),
-        About::Utf8 => strings_utf8(buffer, e),
-        About::Count => e.count <= 255,
-        About::Lengths => every_feature(
-            About::Lengths,
-            features,
-            buffer,
-            e.first as usize,
-            e.count as usize,
-        ),
-    }
-}
-
-fn entry_numbers(e: EntryRow) -> bool
-    ensures { λ r. ⌜ r ≡ entryNumbers e ⌝ }
-{
-    if 256 <= e.major {
-        return false;
-    }
-    if 256 <= e.minor {
-        return false;
-    }
-    if 256 <= e.patch {
-        return false;
-    }
-    if 65536 <= e.port {
-        return false;
-    }
-    if e.addrlen == 0 {
-        return true;
-    }
-    if e.addrlen == 8 {
-        return true;
-    }
-    e.addrlen == 20
-}
-
-fn is_inside(len: usize, at: u32, n: u32) -> bool
-    ensures { λ r. ⌜ r ≡ leb (at + n) len ⌝ }
-{
-    at as usize + n as usize <= len
-}
-
-fn address_inside(len: usize, e: EntryRow) -> bool
-    ensures { λ r. ⌜ r ≡ (eqb (e .addrlen) 0 || leb (e .addrat + (e .addrlen - 4)) len) ⌝ }
-{
-    if e.addrlen == 0 {
-        return true;
-    }
-    is_inside(len, e.addrat, address_size(e.addrlen))
-}
-
-fn entry_inside(features: &[u32], buffer: &[u8], e: EntryRow) -> bool
-    ensures { λ r. ⌜ r ≡ entryInside (lent [] (now (features .entry)) (now (buffer .entry))) e ⌝ }
-{
-    let first = e.first as usize;
-    let count = e.count as usize;
-    if !is_inside(buffer.len(), e.agentat, e.agentlen) {
-        return false;
-    }
-    if !is_inside(buffer.len(), e.nameat, e.namelen) {
-        return false;
-    }
-    if !address_inside(buffer.len(), e) {
-        return false;
-    }
-    if features.len() / 3 < first + count {
-        return false;
-    }
-    every_feature(About::Inside, features, buffer, first, count)
-}
-
-fn strings_short(buffer: &[u8], e: EntryRow) -> bool
-    ensures { λ r. ⌜ r ≡ shortStrings (entryOf (lent [] [] (now (buffer .entry))) e) ⌝ }
-{
-    let agent = part_at(buffer, e.agentat, e.agentlen);
-    if 255 < agent.len() {
-        return false;
-    }
-    let name = part_at(buffer, e.nameat, e.namelen);
-    name.len() <= 255
-}
-
-fn strings_utf8(buffer: &[u8], e: EntryRow) -> bool
-    ensures { λ r. ⌜ r ≡ utf8Strings (entryOf (lent [] [] (now (buffer .entry))) e) ⌝ }
-{
-    if !utf8::is_utf8(part_at(buffer, e.agentat, e.agentlen)) {
-        return false;
-    }
-    utf8::is_utf8(part_at(buffer, e.nameat, e.namelen))
-}
-
-// Is the question answered "yes" for each of count feature rows?
-fn every_feature(about: About, features: &[u32], buffer: &[u8], first: usize, count: usize) -> bool
-    requires { ⌜ 3 * (first + count) < 2 ^ 64 ⌝ }
-    ensures { λ r. ⌜ r ≡ every (featureHolds about (now (buffer .entry))) (rows (featureRow (now (features .entry))) first count) ⌝ }
-{
-    let mut k: usize = 0;
-    while k < count {
-        if !feature_holds(about, buffer, feature_at(features, first + k)) {
-            return false;
-        }
-        k += 1;
-    }
-    true
-}
-
-fn feature_holds(about: About, buffer: &[u8], f: FeatureRow) -> bool
-    ensures { λ r. ⌜ r ≡ featureHolds about (now (buffer .entry)) f ⌝ }
-{
-    match about {
-        About::Numbers => f.id < 256,
-        About::Inside => is_inside(buffer.len(), f.at, f.len),
-        About::Lengths => {
-            let body = part_at(buffer, f.at, f.len);
-            body.len() <= LIMIT
-        }
-        About::Short => true,
-        About::Utf8 => true,
-        About::Count => true,
-    }
-}
-
-// What a writer of n bytes says of an output of len bytes, once its other questions are answered "yes".
-fn ask_room(len: usize, at: usize, n: usize) -> Written
-    ensures { λ r. ⌜ r ≡ placed len at (Written.To n) ⌝ }
-{
-    if len < at {
-        return Written::Refused(12);
-    }
-    if len - at < n {
-        return Written::Refused(14);
-    }
-    Written::To(at + n)
-}
-
 // ---- every question at once
 
 // Is every question answered "yes" for both tables? If not, the order of the questions tells what is said.
@@ -453,27 +132,10 @@ fn tables_ready(entries: &[u32], features: &[u32], buffer: &[u8]) -> bool
     if entries.len() % 12 != 0 {
         return false;
     }
-    if features.len() % 3 != 0 {
-        return false;
-    }
-    if !every_id(features) {
+    if !features_whole(features) {
         return false;
     }
     rows_ready(entries, features, buffer)
-}
-
-fn every_id(features: &[u32]) -> bool
-    ensures { λ r. ⌜ r ≡ every featureNumbers (rows (featureRow (now (features .entry))) 0 (length (now (features .entry)) / 3)) ⌝ }
-{
-    let n = features.len() / 3;
-    let mut k: usize = 0;
-    while k < n {
-        if 256 <= features[3 * k] {
-            return false;
-        }
-        k += 1;
-    }
-    true
 }
 
 fn rows_ready(entries: &[u32], features: &[u32], buffer: &[u8]) -> bool
@@ -482,7 +144,7 @@ fn rows_ready(entries: &[u32], features: &[u32], buffer: &[u8]) -> bool
     let n = entries.len() / 12;
     let mut k: usize = 0;
     while k < n {
-        if !row_ready(features, buffer, whole_entry(entries, k)) {
+        if !row_ready(features, buffer, entry_at(entries, k)) {
             return false;
         }
         k += 1;
@@ -536,7 +198,7 @@ fn features_ready(features: &[u32], buffer: &[u8], first: usize, count: usize) -
 {
     let mut k: usize = 0;
     while k < count {
-        if !feature_ready(buffer.len(), whole_feature(features, first + k)) {
+        if !feature_ready(buffer.len(), feature_at(features, first + k)) {
             return false;
         }
         k += 1;
@@ -568,7 +230,7 @@ fn entries_len(entries: &[u32], features: &[u32], buffer: &[u8]) -> usize
     let mut k: usize = 0;
     while k < n {
         m = min_of(
-            m + entry_len(features, buffer, whole_entry(entries, k)),
+            m + entry_len(features, buffer, entry_at(entries, k)),
             LIMIT + 1,
         );
         k += 1;
@@ -616,4 +278,10 @@ fn feature_len(buffer: &[u8], f: FeatureRow) -> usize
 {
     let body = part_at(buffer, f.at, f.len);
     1 + vlq_len(body.len() as u64) + body.len()
+}
+
+fn min_of(a: usize, b: usize) -> usize
+    ensures { λ r. ⌜ r ≡ min a b ⌝ }
+{
+    if a <= b { a } else { b }
 }

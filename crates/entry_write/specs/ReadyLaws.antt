@@ -14,8 +14,8 @@ use Rattle.handshake.specs.Value.{shortStrings, fewFeatures, entriesAsked}
 use Rattle.handshake.specs.Tables.{Lent, lent, entryRow, entryOf, entryNumbers, inside, entryInside}
 use Rattle.handshake.specs.TablesLaws.{own-range}
 use Rattle.handshake.specs.Writes.{rowInside, rowAsked}
-use Rattle.entry_ask.specs.Asked.{numbersWhole, rowWhole}
-use Rattle.entry_ask.specs.AskedLaws.{own-entry, length-features}
+use Rattle.entry_whole.specs.Whole.{numbersWhole, rowWhole}
+use Rattle.entry_questions.specs.QuestionsLaws.{own-entry, length-features}
 use Rattle.entry_write.specs.Ready.{Ready}
 
 or-right : (t u : Bool) → t ≡ false → t || u ≡ true → u ≡ true

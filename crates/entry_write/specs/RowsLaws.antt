@@ -15,12 +15,12 @@ use Rattle.wire.specs.declared.Written.the-variants.{To, Refused}
 use Rattle.wire.specs.Output.{ask, asked, outputAfter}
 use Rattle.wire.specs.OutputLaws.{Wrote}
 use Rattle.vlq.specs.Vlq.{limit}
-use Rattle.vlq_write.specs.Asked.{writtenFor}
+use Rattle.output_ask.specs.Asked.{writtenFor, placed}
 use Rattle.vlq_write.specs.CheckedLaws.{accepted, stored, kept}
 use Rattle.handshake.specs.Value.{entryBytes, shortStrings, utf8Strings, fewFeatures, lengthsWithin, entriesAsked}
 use Rattle.handshake.specs.Tables.{Lent, lent, entryRow, entryRows, entriesOf, tablesWhole, entryInside}
-use Rattle.entry_ask.specs.Asked.{entriesSaid, placed}
-use Rattle.entry_ask.specs.AskedLaws.{whole-row}
+use Rattle.entry_ask.specs.Asked.{entriesSaid}
+use Rattle.entry_whole.specs.WholeLaws.{whole-row}
 use Rattle.entry_ask.specs.RowLaws.{each-row-asked}
 use Rattle.entry_write.specs.Ready.{Ready, EntriesReady}
 use Rattle.entry_write.specs.ReadyLaws.{row-ready}

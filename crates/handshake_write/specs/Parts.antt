@@ -9,7 +9,7 @@ use Rattle.wire.specs.declared.Written.the-variants.{To, Refused}
 use Rattle.utf8.specs.Utf8.{utf8}
 use Rattle.vlq.specs.Vlq.{vlqBytes}
 use Rattle.vlq.specs.ShortString.{shortStringBytes}
-use Rattle.vlq_write.specs.Asked.{writtenFor}
+use Rattle.output_ask.specs.Asked.{writtenFor}
 use Rattle.handshake.specs.Value.{versionBytes, handshakeBytes, entriesAsked}
 use Rattle.handshake.specs.Writes.{modeFeature, sessionFeature, built}
 use Rattle.handshake.specs.Writes as writes

@@ -22,9 +22,9 @@ use Rattle.vlq.specs.ShortString.{shortStringBytes}
 use Rattle.handshake.specs.Value.{featureBytes, versionBytes, addressBytes, entryBytes, handshakeBytes, shortStrings, utf8Strings, fewFeatures, lengthsWithin, entriesAsked}
 use Rattle.handshake.specs.Tables.{Lent, tablesWhole}
 use Rattle.handshake.specs.Writes.{entryAt, rowAsked, handshakeAt, nipopow, modeFeature, sessionFeature, built}
-use Rattle.entry_ask.specs.Asked.{entrySaid, placed}
+use Rattle.entry_ask.specs.Asked.{entrySaid}
 use Rattle.entry_ask.specs.AskedLaws.{placed-row}
-use Rattle.vlq_write.specs.Asked.{writtenFor}
+use Rattle.output_ask.specs.Asked.{writtenFor, placed}
 use Rattle.zigzag.specs.Zigzag.{zigzagEncode}
 use Rattle.types.specs.Magic.{magicOf}
 use Rattle.types.specs.declared.Network.{Network}

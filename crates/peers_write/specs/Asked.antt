@@ -8,10 +8,9 @@ use Rattle.wire.specs.Output.{ask}
 use Rattle.wire.specs.declared.Written.{Written}
 use Rattle.wire.specs.declared.Written.the-variants.{To, Refused}
 use Rattle.vlq.specs.Vlq.{limit, vlqBytes}
-use Rattle.vlq_write.specs.Asked.{writtenFor}
+use Rattle.output_ask.specs.Asked.{writtenFor, placed}
 use Rattle.frame_write.specs.Asked.{frameLength}
 use Rattle.handshake.specs.Tables.{Lent, entriesOf}
-use Rattle.entry_ask.specs.Asked.{placed}
 use Rattle.messages.specs.Value.{peersValue, bodyBytes}
 
 -- the entries of a table, as a body

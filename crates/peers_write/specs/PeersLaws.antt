@@ -25,7 +25,8 @@ use Rattle.frame_write.specs.FrameWriteLaws.{length-frame, frameLength-body, cl
 use Rattle.handshake.specs.Value.{entryBytes, shortStrings, utf8Strings, fewFeatures, lengthsWithin, entriesAsked}
 use Rattle.handshake.specs.Tables.{Lent, entryRow, entryRows, entryOf, entriesOf, tablesWhole, entryInside}
 use Rattle.handshake.specs.RowsLaws.{length-rows}
-use Rattle.entry_ask.specs.Asked.{entriesSaid, placed}
+use Rattle.output_ask.specs.Asked.{placed}
+use Rattle.entry_ask.specs.Asked.{entriesSaid}
 use Rattle.entry_write.specs.Rows.{rowsAsked, rowsWritten}
 use Rattle.messages.specs.Value as Values
 use Rattle.messages.specs.Value.{codeOf, bodyBytes, payloadsWithin, countWithin, codeFree, messageAsked}

@@ -85,7 +85,7 @@ fn ask_peers(len: usize, at: usize, cap: usize, count: usize, said: Written) -> 
 {
     match said {
         Written::To(n) => ask_count(len, at, cap, count, n),
-        Written::Refused(m) => entry_ask::ask_place(len, at, Written::Refused(m)),
+        Written::Refused(m) => output_ask::ask_place(len, at, Written::Refused(m)),
     }
 }
 

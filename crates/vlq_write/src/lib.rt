@@ -3,13 +3,15 @@
 ghost use mathlib.Core.Path.{_≡_};
 ghost use mathlib.Core.List.{[], _∷_};
 ghost use Prim.Native.Nat.{_+_, _≤_};
-ghost use lib.Dec.{leb};
 ghost use lib.ListN.{length, take, drop};
 ghost use Rattle.wire.specs.Output.{written, outputAfter};
 ghost use Rattle.wire.specs.OutputLaws.{Wrote};
 ghost use Rattle.vlq.specs.Vlq.{vlqBytes};
 ghost use Rattle.vlq.specs.ShortString.{shortStringBytes};
-ghost use Rattle.vlq_write.specs.Asked.{shortStringAsked, writtenFor};
+ghost use Rattle.output_ask.specs.Asked.{writtenFor};
+ghost use Rattle.vlq_write.specs.Asked.{shortStringAsked};
+use output_ask::ask_room;
+use output_ask::has_room;
 use wire::Written;
 
 // How many bytes the shortest VLQ of v has.
@@ -74,29 +76,6 @@ pub fn write_byte(out: &mut [u8], at: usize, b: u8) -> Written
         out[at] = b;
     }
     answer
-}
-
-// Has an output of len bytes n bytes from the place on?
-pub fn has_room(len: usize, at: usize, n: usize) -> bool
-    ensures { λ r. ⌜ r ≡ leb (at + n) len ⌝ }
-{
-    if len < at {
-        return false;
-    }
-    n <= len - at
-}
-
-// What a writer of n bytes that asks nothing else says of an output of len bytes.
-fn ask_room(len: usize, at: usize, n: usize) -> Written
-    ensures { λ r. ⌜ r ≡ writtenFor [] [] len at n ⌝ }
-{
-    if len < at {
-        Written::Refused(12)
-    } else if n <= len - at {
-        Written::To(at + n)
-    } else {
-        Written::Refused(14)
-    }
 }
 
 // What write_short_string says of an output of len bytes.

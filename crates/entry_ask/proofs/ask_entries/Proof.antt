@@ -4,7 +4,7 @@ use denote.Ref.{now}
 use borrow.Author.Needs.{needs}
 use Rattle.wire.specs.declared.Written.the-variants.{To}
 use Rattle.handshake.specs.Tables.{lent}
-use Rattle.entry_ask.specs.declared.About.the-variants.{Count}
+use Rattle.entry_questions.specs.declared.About.the-variants.{Count}
 use Rattle.entry_ask.proofs.AnsweredLaws.{tables-said}
 use Rattle.entry_ask.proofs.ask_entries.Statement.{statement}
 use Rattle.entry_ask.proofs.ask_entries.Tie as tie

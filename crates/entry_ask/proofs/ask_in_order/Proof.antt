@@ -7,7 +7,7 @@ use Rattle.wire.specs.Output.{asked}
 use Rattle.handshake.specs.Value.{entriesAsked}
 use Rattle.handshake.specs.Tables.{lent}
 use Rattle.entry_ask.specs.Asked.{entriesSaid}
-use Rattle.entry_ask.specs.AskedLaws.{rows-inside, rows-short, rows-utf8, rows-count, rows-lengths}
+use Rattle.entry_questions.specs.QuestionsLaws.{rows-inside, rows-short, rows-utf8, rows-count, rows-lengths}
 use Rattle.entry_ask.proofs.ask_in_order.Statement.{statement}
 use Rattle.entry_ask.proofs.ask_in_order.Tie as tie
 

@@ -9,8 +9,9 @@ use Rattle.wire.specs.Bytes.{every}
 use Rattle.wire.specs.Output.{asked}
 use Rattle.handshake.specs.Value.{entriesAsked}
 use Rattle.handshake.specs.Tables.{lent}
-use Rattle.entry_ask.specs.Asked.{rowHolds, partsSaid}
-use Rattle.entry_ask.specs.AskedLaws.{own-short, own-utf8, few-count}
+use Rattle.entry_questions.specs.Questions.{rowHolds}
+use Rattle.entry_ask.specs.Asked.{partsSaid}
+use Rattle.entry_questions.specs.QuestionsLaws.{own-short, own-utf8, few-count}
 use Rattle.entry_ask.proofs.ask_parts.Statement.{statement}
 use Rattle.entry_ask.proofs.ask_parts.Tie as tie
 

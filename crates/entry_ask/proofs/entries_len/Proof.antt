@@ -13,9 +13,9 @@ use Rattle.handshake.specs.Value.{EntryValue, entryBytes}
 use Rattle.handshake.specs.Tables.{lent, rows, entryRow, entryOf, entriesOf}
 use Rattle.handshake.specs.TablesLaws.{every-row}
 use Rattle.handshake.specs.RowsLaws.{bytes-next, bytes-none}
-use Rattle.entry_ask.specs.Asked.{rowHolds}
-use Rattle.entry_ask.specs.AskedLaws.{own-entry, row-few}
-use Rattle.entry_ask.specs.declared.About.the-variants.{Count}
+use Rattle.entry_questions.specs.Questions.{rowHolds}
+use Rattle.entry_questions.specs.QuestionsLaws.{own-entry, row-few}
+use Rattle.entry_questions.specs.declared.About.the-variants.{Count}
 use Rattle.entry_ask.proofs.entries_len.Statement.{statement}
 use Rattle.entry_ask.proofs.entries_len.Tie as tie
 
@@ -33,15 +33,15 @@ loop-holds : tie.Need-loop-holds Inv-loop μ-loop
 loop-holds c =
     (rw sub-zero (omega arith), omega arith, refl, omega arith)
 
-whole-entry-requires : tie.Need-whole-entry-requires Inv-loop μ-loop
-whole-entry-requires c κs = omega arith
+entry-at-requires : tie.Need-entry-at-requires Inv-loop μ-loop
+entry-at-requires c κs = omega arith
 
 entry-len-requires : tie.Need-entry-len-requires Inv-loop μ-loop
 entry-len-requires c κs =
     let a = c .before .before .before .before .before .before .args in
     let l = (lent (now (a .entries)) (now (a .features)) (now (a .buffer))) in
     let k = c .before .before .loop .k in
-    rw (c .whole-entry .ensures)
+    rw (c .entry-at .ensures)
     (row-few (l .features) (l .buffer) (entryRow (l .entries) k)
     (every-row (rowHolds Count (l .features) (l .buffer)) (entryRow (l .entries)) (length (l .entries) / 12) 0 k (c .before .before .before .before .before .before .pre) (omega arith) (omega arith)))
 
@@ -66,7 +66,7 @@ loop-again c =
     let n = length (l .entries) / 12 in
     let next = ap length (bytes-next entryBytes (entryOf l) f (p .k) n (omega arith)) in
     let one : c .before .entry-len .result ≡ length (entryBytes (entryOf l (f (p .k)))) =
-    c .before .entry-len .ensures .0 ∙ ap (λ (r : EntryRow). length (entryBytes (entryOf (lent [] (l .features) (l .buffer)) r))) (c .before .before .whole-entry .ensures)
+    c .before .entry-len .ensures .0 ∙ ap (λ (r : EntryRow). length (entryBytes (entryOf (lent [] (l .features) (l .buffer)) r))) (c .before .before .entry-at .ensures)
     ∙ ap (λ (v : EntryValue). length (entryBytes v)) (own-entry l (f (p .k))) in
     let both = length-append (entryBytes (entryOf l (f (p .k)))) (flatMap entryBytes (map (entryOf l) (rows f (p .k + 1) (n - (p .k + 1))))) in
     (omega (arith, p .inv .0, p .inv .1, next, one, both, c .min-of .ensures), omega (arith, c .min-of .ensures), p .inv .2, omega arith)
@@ -87,7 +87,7 @@ entries-len-spec =
     Inv-loop
     μ-loop
     loop-holds
-    whole-entry-requires
+    entry-at-requires
     entry-len-requires
     add-min-of
     add-min-of-2

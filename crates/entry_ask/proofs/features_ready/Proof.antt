@@ -21,11 +21,11 @@ abbrev μ-loop : tie.MeasureT-loop
 loop-holds : tie.Need-loop-holds Inv-loop μ-loop
 loop-holds c = (upto-start _ _ _ (omega arith), omega arith)
 
-add-whole-feature : tie.Need-add-whole-feature Inv-loop μ-loop
-add-whole-feature c = omega arith
+add-feature-at : tie.Need-add-feature-at Inv-loop μ-loop
+add-feature-at c = omega arith
 
-whole-feature-requires : tie.Need-whole-feature-requires Inv-loop μ-loop
-whole-feature-requires c κs = omega arith
+feature-at-requires : tie.Need-feature-at-requires Inv-loop μ-loop
+feature-at-requires c κs = omega arith
 
 add-k : tie.Need-add-k Inv-loop μ-loop
 add-k c = omega arith
@@ -38,7 +38,7 @@ loop-again c =
     let a = c .before .before .before .before .before .before .before .args in
     let l = c .before .before .before .before .loop in
     let p = c .before .feature-ready .ensures (not-false _ (c .if1 .left)) in
-    let q = rw (c .before .before .whole-feature .ensures) at (feature-answered (now (a .buffer)) _ (p .0) (p .1) (p .2)) in
+    let q = rw (c .before .before .feature-at .ensures) at (feature-answered (now (a .buffer)) _ (p .0) (p .1) (p .2)) in
     (upto-next _ (a .first) (a .first + l .k) _ (l .inv .0) q (omega arith), omega arith)
 
 returns-2 : tie.Need-returns-2 Inv-loop μ-loop
@@ -54,8 +54,8 @@ features-ready-spec =
     Inv-loop
     μ-loop
     loop-holds
-    add-whole-feature
-    whole-feature-requires
+    add-feature-at
+    feature-at-requires
     (λ c κs. search needs)
     (λ c. untold)
     add-k

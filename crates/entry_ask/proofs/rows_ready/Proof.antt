@@ -22,8 +22,8 @@ abbrev μ-loop : tie.MeasureT-loop
 loop-holds : tie.Need-loop-holds Inv-loop μ-loop
 loop-holds c = (refl, upto-start _ _ _ (omega arith))
 
-whole-entry-requires : tie.Need-whole-entry-requires Inv-loop μ-loop
-whole-entry-requires c κs = omega arith
+entry-at-requires : tie.Need-entry-at-requires Inv-loop μ-loop
+entry-at-requires c κs = omega arith
 
 add-k : tie.Need-add-k Inv-loop μ-loop
 add-k c = omega arith
@@ -34,7 +34,7 @@ loop-less c = omega arith
 loop-again : tie.Need-loop-again Inv-loop μ-loop
 loop-again c =
     let l = c .before .before .before .before .loop in
-    let q = rw (c .before .before .whole-entry .ensures) at (c .before .row-ready .ensures (not-false _ (c .if1 .left))) in
+    let q = rw (c .before .before .entry-at .ensures) at (c .before .row-ready .ensures (not-false _ (c .if1 .left))) in
     (l .inv .0, upto-next _ 0 (l .k) _ (l .inv .1) q (omega arith))
 
 returns-2 : tie.Need-returns-2 Inv-loop μ-loop
@@ -47,7 +47,7 @@ rows-ready-spec =
     Inv-loop
     μ-loop
     loop-holds
-    whole-entry-requires
+    entry-at-requires
     (λ c κs. search needs)
     (λ c. untold)
     add-k

@@ -8,20 +8,19 @@ use Rattle.entry_ask.proofs.AnsweredLaws.{untold, tables-answered}
 use Rattle.entry_ask.proofs.tables_ready.Statement.{statement}
 use Rattle.entry_ask.proofs.tables_ready.Tie as tie
 
-returns-4 : tie.Need-returns-4
+returns-3 : tie.Need-returns-3
 unfolding wholeRows
-returns-4 c =
-    let a = c .before .before .before .before .before .before .before .before .args in
-    let ids = sym (c .before .before .every-id .ensures) ∙ not-false _ (c .before .if3 .left) in
-    λ e. tables-answered (lent (now (a .entries)) (now (a .features)) (now (a .buffer))) (c .rows-ready .ensures e) (eq-eqb _ _ (c .before .before .before .before .if1 .left)) (eq-eqb _ _ (c .before .before .before .if2 .left)) ids
+returns-3 c =
+    let a = c .before .before .before .before .before .before .before .args in
+    let whole = sym (c .before .before .features-whole .ensures) ∙ not-false _ (c .before .if2 .left) in
+    λ e. tables-answered (lent (now (a .entries)) (now (a .features)) (now (a .buffer))) (c .rows-ready .ensures e) (eq-eqb _ _ (c .before .before .before .if1 .left)) whole
 
 pub tables-ready-spec : {M : Type 1} → statement M
 tables-ready-spec =
     tie.close
     (tie.spec
     (λ c. untold)
-    (λ c. untold)
     (λ c κs. search needs)
     (λ c. untold)
     (λ c κs. search needs)
-    returns-4)
+    returns-3)

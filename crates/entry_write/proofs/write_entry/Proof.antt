@@ -9,7 +9,7 @@ use Rattle.wire.specs.Output.{ask, asked, written, outputAfter}
 use Rattle.handshake.specs.Value.{entryBytes}
 use Rattle.handshake.specs.Tables.{lent}
 use Rattle.handshake.specs.Writes.{entryAt, rowAsked, entryWritten}
-use Rattle.entry_ask.specs.AskedLaws.{whole-row}
+use Rattle.entry_whole.specs.WholeLaws.{whole-row}
 use Rattle.entry_write.proofs.write_entry.Statement.{statement}
 use Rattle.entry_write.proofs.write_entry.Tie as tie
 

@@ -11,8 +11,11 @@ use Rattle.vlq_write.specs.CheckedLaws.{accepted, stored, kept}
 use Rattle.handshake.specs.Value.{entryBytes}
 use Rattle.handshake.specs.Tables.{lent, entryRow}
 use Rattle.handshake.specs.Writes.{entryAt, rowAsked}
-use Rattle.entry_ask.specs.Asked.{rowWhole, rowSaid, placed}
-use Rattle.entry_ask.specs.AskedLaws.{own-entry, placed-row}
+use Rattle.output_ask.specs.Asked.{placed}
+use Rattle.entry_whole.specs.Whole.{rowWhole}
+use Rattle.entry_ask.specs.Asked.{rowSaid}
+use Rattle.entry_questions.specs.QuestionsLaws.{own-entry}
+use Rattle.entry_ask.specs.AskedLaws.{placed-row}
 use Rattle.entry_write.specs.ReadyLaws.{row-in-table, row-ready}
 use Rattle.entry_write.proofs.write_row.Statement.{statement}
 use Rattle.entry_write.proofs.write_row.Tie as tie

@@ -1,0 +1,17 @@
+-- What a writer says of an output of len bytes, by sizes (document 01, "Questions", Writers).
+use Prim.Native.Nat.{ℕ, _+_}
+use mathlib.Core.Bool.{cond}
+use mathlib.Core.List.{List, [], _∷_, _++_}
+use lib.Dec.{eqb, leb}
+use Rattle.wire.specs.Output.{Question, ask, asked}
+use Rattle.wire.specs.declared.Written.{Written}
+use Rattle.wire.specs.declared.Written.the-variants.{To, Refused}
+
+-- what a writer of any n bytes says of an output of any len bytes: `written`, which depends on nothing else of them
+abbrev pub writtenFor : List Question → List Question → ℕ → ℕ → ℕ → Written
+writtenFor before after len at n = asked (before ++ (ask 12 (leb at len) ∷ (after ++ (ask 14 (leb (at + n) len) ∷ [])))) (To (at + n))
+
+-- what is said of a value, with the questions of the place (after 16) and of the room (last), for an output of len bytes
+unfoldable pub placed : ℕ → ℕ → Written → Written
+placed len at (To n) = cond (leb at len) (cond (leb (at + n) len) (To (at + n)) (Refused 14)) (Refused 12)
+placed len at (Refused m) = cond (eqb m 16) (Refused 16) (cond (leb at len) (Refused m) (Refused 12))
