@@ -1,9 +1,9 @@
 -- What a row's tests tell of its questions, and what is said once every question is answered "yes".
-use Prim.Native.Nat.{ℕ, zero, suc, _+_, _/_, _≤_, _<_, min}
+use Prim.Native.Nat.{ℕ, zero, suc, _+_, _/_, _≤_, _<_}
 use native.Mathlib.Omega.{arith}
 use mathlib.Core.Bool.{Bool, true, false, _&&_}
-use mathlib.Core.List.{List, [], flatMap}
-use mathlib.Core.Path.{_≡_, refl, sym, _∙_}
+use mathlib.Core.List.{List, []}
+use mathlib.Core.Path.{_≡_, refl, sym, ap, _∙_}
 use lib.ListN.{length}
 use borrow.Author.Tests.{le-leb, lt-ltb, le-ltb}
 use Rattle.wire.specs.Bytes.{every}
@@ -14,15 +14,17 @@ use Rattle.wire.specs.declared.Written.the-variants.{To}
 use Rattle.vlq.specs.Vlq.{limit}
 use Rattle.handshake.specs.declared.FeatureRow.{FeatureRow}
 use Rattle.handshake.specs.declared.EntryRow.{EntryRow}
-use Rattle.handshake.specs.Value.{entryBytes, shortStrings, utf8Strings, entriesAsked}
+use Rattle.handshake.specs.Value.{shortStrings, utf8Strings, entriesAsked}
 use Rattle.handshake.specs.Tables.{Lent, lent, rows, featureRow, entryRow, entryRows, featureRows, bytesAt, featureOf, entryOf, entriesOf, wholeRows, featureNumbers, entryNumbers, tablesWhole, inside, featureInside, entryInside}
 use Rattle.entry_questions.specs.Questions.{featureHolds, rowHolds}
 use Rattle.entry_whole.specs.Whole.{numbersWhole}
 use Rattle.entry_ask.specs.Asked.{entriesSaid, rowSaid, partsSaid}
 use Rattle.entry_ask.specs.Answered.{FeatureAnswered, Answered, TablesAnswered, Fits}
-use Rattle.entry_questions.specs.QuestionsLaws.{own-utf8, few-count, rows-inside, rows-short, rows-utf8, rows-count, rows-lengths, features-inside, features-lengths}
+use Rattle.entry_rows.specs.ValueLaws.{own-utf8, few-count}
+use Rattle.entry_questions.specs.QuestionsLaws.{rows-inside, rows-short, rows-utf8, rows-count, rows-lengths, features-inside, features-lengths}
 use Rattle.entry_ask.specs.AskedLaws.{row-parts}
-use Rattle.entry_ask.specs.LengthLaws.{length-bytesAt-le}
+use Rattle.entry_length.specs.Length.{entryLength, entriesLength}
+use Rattle.entry_length.specs.LengthLaws.{length-bytesAt-le, entry-few, entries-few}
 use Rattle.entry_questions.specs.declared.About.{About}
 use Rattle.entry_questions.specs.declared.About.the-variants.{Inside, Short, Utf8, Count, Lengths}
 
@@ -93,13 +95,14 @@ module _ (features buffer : List ℕ) (r : EntryRow) (numbers : entryNumbers r �
   row-answered = record { whole = whole-numbers; holds = row-holds }
 
 parts-answered : (features buffer : List ℕ) (r : EntryRow) → Answered features buffer r
-    → partsSaid features buffer r ≡ To (length (entryBytes (entryOf (lent [] features buffer) r)))
+    → partsSaid features buffer r ≡ To (entryLength (entryOf (lent [] features buffer) r))
 unfolding partsSaid entriesAsked asked every rowHolds
-parts-answered features buffer r a = rw (a .holds Inside, a .holds Short, a .holds Utf8, a .holds Count, a .holds Lengths)
+parts-answered features buffer r a =
+    rw (a .holds Inside, a .holds Short, a .holds Utf8, a .holds Count, a .holds Lengths) (ap To (sym (entry-few _ (a .holds Count))))
 
 -- what is said of row k
 pub row-said : (l : Lent) (k : ℕ) → k < length (l .entries) / 12 → Answered (l .features) (l .buffer) (entryRow (l .entries) k)
-    → rowSaid l k ≡ To (length (entryBytes (entryOf (lent [] (l .features) (l .buffer)) (entryRow (l .entries) k))))
+    → rowSaid l k ≡ To (entryLength (entryOf (lent [] (l .features) (l .buffer)) (entryRow (l .entries) k)))
 row-said l k h a = row-parts l k h (a .whole) ∙ parts-answered (l .features) (l .buffer) (entryRow (l .entries) k) a
 
 -- ---- both tables
@@ -123,14 +126,15 @@ module _ (l : Lent) (all : UpTo (λ i. Answered (l .features) (l .buffer) (entry
       record { whole = rw (a, p .0, row-numbers, p .1); holds = rows-hold }
 
 -- what is said of all entries
-pub tables-said : (l : Lent) → TablesAnswered l → entriesSaid l ≡ To (min (length (flatMap entryBytes (entriesOf l))) (limit + 1))
+pub tables-said : (l : Lent) → TablesAnswered l → entriesSaid l ≡ To (entriesLength (entriesOf l))
 unfolding entriesSaid entriesAsked asked
 tables-said l a =
+    let few = sym (rows-count l) ∙ a .holds Count in
     rw (
       a .whole,
       sym (rows-inside l) ∙ a .holds Inside,
       sym (rows-short l) ∙ a .holds Short,
       sym (rows-utf8 l) ∙ a .holds Utf8,
-      sym (rows-count l) ∙ a .holds Count,
+      few,
       sym (rows-lengths l) ∙ a .holds Lengths,
-    )
+    ) (ap To (sym (entries-few (entriesOf l) few)))

@@ -14,7 +14,7 @@ use Rattle.handshake.specs.Tables.{Lent, entryRow, tablesWhole}
 use Rattle.handshake.specs.Writes.{rowInside, rowAsked}
 use Rattle.entry_whole.specs.Whole.{numbersWhole, rowWhole}
 use Rattle.entry_whole.specs.WholeLaws.{whole-row}
-use Rattle.entry_questions.specs.QuestionsLaws.{own-entry, own-inside}
+use Rattle.entry_rows.specs.ValueLaws.{own-entry, own-inside}
 use Rattle.entry_ask.specs.Asked.{entrySaid, rowSaid, partsSaid}
 
 -- what is said of row k: outside its table, with a number out of range, and otherwise

@@ -1,5 +1,4 @@
 pub mod Asked
 pub mod Answered
-pub mod LengthLaws
 pub mod AskedLaws
 pub mod RowLaws

@@ -1,19 +1,16 @@
-// What is asked of entries before they are written from a table of rows beside a lent buffer (document 01, "Questions", Writers), and how long
-// they are: each question over all rows before the next.
+// What is asked of entries before they are written from a table of rows beside a lent buffer (document 01, "Questions", Writers): each question
+// over all rows before the next.
 ghost use mathlib.Core.Bool.{true};
 ghost use mathlib.Core.Path.{_≡_};
-ghost use mathlib.Core.List.{List, [], map, flatMap};
-ghost use Prim.Native.Nat.{ℕ, _+_, _-_, _*_, _/_, _^_, _≤_, _<_, min};
+ghost use Prim.Native.Nat.{_+_, _-_, _/_, _≤_, _<_};
 ghost use lib.ListN.{length};
-ghost use Rattle.wire.specs.Bytes.{every};
 ghost use Rattle.vlq.specs.Vlq.{limit};
-ghost use Rattle.handshake.specs.Entry.{addressOf};
-ghost use Rattle.handshake.specs.Value.{addressBytes, featureBytes, entryBytes};
-ghost use Rattle.handshake.specs.Tables.{lent, rows, featureRow, entryRow, featureOf, entryOf, entriesOf};
+ghost use Rattle.handshake.specs.Tables.{lent, rows, featureRow, entryRow};
 ghost use Rattle.wire.specs.UpTo.{UpTo};
 ghost use Rattle.entry_ask.specs.Answered.{FeatureAnswered, Answered, TablesAnswered, Fits};
-ghost use Rattle.entry_questions.specs.Questions.{rowHolds};
 ghost use Rattle.entry_ask.specs.Asked.{entriesSaid, entrySaid, rowSaid, partsSaid};
+use entry_length::entries_len;
+use entry_length::entry_len;
 use entry_questions::About;
 use entry_questions::address_inside;
 use entry_questions::entry_inside;
@@ -31,7 +28,6 @@ use entry_whole::row_whole;
 use entry_whole::tables_whole;
 use handshake::EntryRow;
 use handshake::FeatureRow;
-use vlq_write::vlq_len;
 use wire::Written;
 
 // The most that a length may be.
@@ -216,72 +212,4 @@ fn feature_ready(len: usize, f: FeatureRow) -> bool
         return false;
     }
     is_inside(len, f.at, f.len)
-}
-
-// ---- lengths
-
-// How many bytes the entries are written as, LIMIT + 1 where they are more.
-fn entries_len(entries: &[u32], features: &[u32], buffer: &[u8]) -> usize
-    requires { ⌜ every (rowHolds About.Count (now features) (now buffer)) (rows (entryRow (now entries)) 0 (length (now entries) / 12)) ≡ true ⌝ }
-    ensures { λ r. ⌜ r ≡ min (length (flatMap entryBytes (entriesOf (lent (now (entries .entry)) (now (features .entry)) (now (buffer .entry)))))) (limit + 1) ⌝ }
-{
-    let n = entries.len() / 12;
-    let mut m: usize = 0;
-    let mut k: usize = 0;
-    while k < n {
-        m = min_of(
-            m + entry_len(features, buffer, entry_at(entries, k)),
-            LIMIT + 1,
-        );
-        k += 1;
-    }
-    m
-}
-
-fn entry_len(features: &[u32], buffer: &[u8], e: EntryRow) -> usize
-    requires { ⌜ e .count ≤ 255 ⌝ }
-    ensures { λ r. ⌜ (r ≡ length (entryBytes (entryOf (lent [] (now (features .entry)) (now (buffer .entry))) e))) × (r ≤ 10000000000000) ⌝ }
-{
-    let agent = part_at(buffer, e.agentat, e.agentlen);
-    let name = part_at(buffer, e.nameat, e.namelen);
-    let own = features_len(features, buffer, e.first as usize, e.count as usize);
-    6 + agent.len() + name.len() + address_len(e) + own
-}
-
-fn address_len(e: EntryRow) -> usize
-    ensures { λ r. ⌜ ((bytes : List ℕ) → r ≡ length (addressBytes (addressOf (e .addrlen) bytes (e .port)))) × (r ≤ 100) ⌝ }
-{
-    if e.addrlen == 8 {
-        return 6 + vlq_len(e.port as u64);
-    }
-    if e.addrlen == 20 {
-        return 18 + vlq_len(e.port as u64);
-    }
-    1
-}
-
-fn features_len(features: &[u32], buffer: &[u8], first: usize, count: usize) -> usize
-    requires { ⌜ (first < 2 ^ 32) × (count ≤ 255) ⌝ }
-    ensures { λ r. ⌜ (r ≡ length (flatMap featureBytes (map (featureOf (now (buffer .entry))) (rows (featureRow (now (features .entry))) first count)))) × (r ≤ count * 10000000000) ⌝ }
-{
-    let mut m: usize = 0;
-    let mut k: usize = 0;
-    while k < count {
-        m += feature_len(buffer, feature_at(features, first + k));
-        k += 1;
-    }
-    m
-}
-
-fn feature_len(buffer: &[u8], f: FeatureRow) -> usize
-    ensures { λ r. ⌜ (r ≡ length (featureBytes (featureOf (now (buffer .entry)) f))) × (r ≤ 10000000000) ⌝ }
-{
-    let body = part_at(buffer, f.at, f.len);
-    1 + vlq_len(body.len() as u64) + body.len()
-}
-
-fn min_of(a: usize, b: usize) -> usize
-    ensures { λ r. ⌜ r ≡ min a b ⌝ }
-{
-    if a <= b { a } else { b }
 }

@@ -1,54 +1,21 @@
--- Laws of the questions: a row is known by the feature table and the buffer, and each question over all rows is that of the values.
-use Prim.Native.Nat.{ℕ, _≤_}
-use mathlib.Core.Bool.{Bool, true}
+-- Each question over all rows, as it is asked of each row, is that of the values.
+use Prim.Native.Nat.{ℕ}
+use mathlib.Core.Bool.{Bool}
 use mathlib.Core.List.{List, [], _∷_}
 use mathlib.Core.Path.{_≡_, refl, sym, ap, _∙_}
 use lib.Dec.{leb}
-use lib.ListN.{length, length-map}
-use borrow.Author.Tests.{leb-true}
+use lib.ListN.{length}
 use Rattle.wire.specs.Bytes.{every}
 use Rattle.wire.specs.BytesLaws.{every-map}
 use Rattle.vlq.specs.Vlq.{limit}
 use Rattle.handshake.specs.declared.FeatureRow.{FeatureRow}
 use Rattle.handshake.specs.declared.EntryRow.{EntryRow}
 use Rattle.handshake.specs.Value.{EntryValue, shortStrings, utf8Strings, fewFeatures, lengthsWithin}
-use Rattle.handshake.specs.Tables.{Lent, lent, featureRow, entryRows, ownRows, featureOf, entryOf, entriesOf, featureInside, entryInside}
-use Rattle.handshake.specs.RowsLaws.{length-rows}
+use Rattle.handshake.specs.Tables.{Lent, entryRows, ownRows, featureOf, entryOf, entriesOf, featureInside, entryInside}
+use Rattle.entry_rows.specs.ValueLaws.{own-entry, own-inside}
 use Rattle.entry_questions.specs.Questions.{featureHolds, rowHolds}
 use Rattle.entry_questions.specs.declared.About.{About}
 use Rattle.entry_questions.specs.declared.About.the-variants.{Inside, Short, Utf8, Count, Lengths}
-
--- ---- a row is known by the feature table and the buffer
-
-pub own-entry : (l : Lent) (r : EntryRow) → entryOf (lent [] (l .features) (l .buffer)) r ≡ entryOf l r
-unfolding entryOf
-own-entry l r = refl
-
-pub own-inside : (l : Lent) (r : EntryRow) → entryInside (lent [] (l .features) (l .buffer)) r ≡ entryInside l r
-unfolding entryInside
-own-inside l r = refl
-
-pub length-features : (l : Lent) (r : EntryRow) → length (entryOf l r .features) ≡ r .count
-unfolding entryOf
-length-features l r = length-map (ownRows l r) (featureOf (l .buffer)) ∙ length-rows (featureRow (l .features)) (r .first) (r .count)
-
-pub own-short : (l : Lent) (r : EntryRow) → shortStrings (entryOf (lent [] [] (l .buffer)) r) ≡ shortStrings (entryOf l r)
-unfolding shortStrings entryOf
-own-short l r = refl
-
-pub own-utf8 : (l : Lent) (r : EntryRow) → utf8Strings (entryOf (lent [] [] (l .buffer)) r) ≡ utf8Strings (entryOf l r)
-unfolding utf8Strings entryOf
-own-utf8 l r = refl
-
-pub few-count : (l : Lent) (r : EntryRow) → fewFeatures (entryOf l r) ≡ leb (r .count) 255
-unfolding fewFeatures
-few-count l r = ap (λ (n : ℕ). leb n 255) (length-features l r)
-
-pub row-few : (features buffer : List ℕ) (r : EntryRow) → rowHolds Count features buffer r ≡ true → r .count ≤ 255
-unfolding rowHolds
-row-few features buffer r h = leb-true (r .count) 255 (sym (few-count (lent [] features buffer) r) ∙ h)
-
--- ---- each question over all rows
 
 every-same : {A : Type 0} (t u : A → Bool) → ((a : A) → t a ≡ u a) → (l : List A) → every t l ≡ every u l
 unfolding every

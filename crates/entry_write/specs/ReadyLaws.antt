@@ -15,7 +15,7 @@ use Rattle.handshake.specs.Tables.{Lent, lent, entryRow, entryOf, entryNumbers,
 use Rattle.handshake.specs.TablesLaws.{own-range}
 use Rattle.handshake.specs.Writes.{rowInside, rowAsked}
 use Rattle.entry_whole.specs.Whole.{numbersWhole, rowWhole}
-use Rattle.entry_questions.specs.QuestionsLaws.{own-entry, length-features}
+use Rattle.entry_rows.specs.ValueLaws.{own-entry, length-features}
 use Rattle.entry_write.specs.Ready.{Ready}
 
 or-right : (t u : Bool) → t ≡ false → t || u ≡ true → u ≡ true

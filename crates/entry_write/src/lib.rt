@@ -16,7 +16,7 @@ ghost use Rattle.handshake.specs.Value.{addressBytes, featureBytes, entryBytes,
 ghost use Rattle.handshake.specs.Tables.{lent, rows, featureRow, entryRow, bytesAt, featureOf, featureNumbers, entryOf, entriesOf, entryNumbers};
 ghost use Rattle.handshake.specs.Writes.{entryAt, rowAsked, entryWritten};
 ghost use Rattle.entry_whole.specs.Whole.{rowWhole};
-ghost use Rattle.entry_ask.specs.LengthLaws.{headBytes};
+ghost use Rattle.entry_length.specs.Length.{headBytes};
 ghost use Rattle.entry_write.specs.Ready.{Ready, EntriesReady};
 ghost use Rattle.entry_write.specs.Rows.{bodySaid, rowsWritten};
 use entry_ask::ask_entries;

@@ -4,13 +4,9 @@ use denote.Ref.{now}
 use borrow.Author.Needs.{needs}
 use Rattle.wire.specs.declared.Written.the-variants.{To}
 use Rattle.handshake.specs.Tables.{lent}
-use Rattle.entry_questions.specs.declared.About.the-variants.{Count}
 use Rattle.entry_ask.proofs.AnsweredLaws.{tables-said}
 use Rattle.entry_ask.proofs.ask_entries.Statement.{statement}
 use Rattle.entry_ask.proofs.ask_entries.Tie as tie
-
-entries-len-requires : tie.Need-entries-len-requires
-entries-len-requires c κs = c .before .tables-ready .ensures (c .if1 .taken) .holds Count
 
 returns : tie.Need-returns
 returns c =
@@ -22,7 +18,7 @@ ask-entries-spec =
     tie.close
     (tie.spec
     (λ c κs. search needs)
-    entries-len-requires
+    (λ c κs. search needs)
     returns
     (λ c κs. search needs)
     (λ c. search needs))

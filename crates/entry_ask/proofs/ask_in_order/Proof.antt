@@ -5,7 +5,8 @@ use borrow.Author.Needs.{needs}
 use borrow.Author.Tests.{not-true, not-false}
 use Rattle.wire.specs.Output.{asked}
 use Rattle.handshake.specs.Value.{entriesAsked}
-use Rattle.handshake.specs.Tables.{lent}
+use Rattle.handshake.specs.Tables.{lent, entriesOf}
+use Rattle.entry_length.specs.LengthLaws.{entries-few}
 use Rattle.entry_ask.specs.Asked.{entriesSaid}
 use Rattle.entry_questions.specs.QuestionsLaws.{rows-inside, rows-short, rows-utf8, rows-count, rows-lengths}
 use Rattle.entry_ask.proofs.ask_in_order.Statement.{statement}
@@ -47,14 +48,11 @@ returns-6 c =
     let a = c .before .before .before .before .before .before .before .before .before .before .before .before .before .before .before .args in
     rw (sym (c .before .before .before .before .before .before .before .before .before .before .before .tables-whole .ensures) ∙ not-false _ (c .before .before .before .before .before .before .before .before .before .before .if1 .left), sym (rows-inside (lent (now (a .entries)) (now (a .features)) (now (a .buffer)))) ∙ sym (c .before .before .before .before .before .before .before .before .before .every-row .ensures) ∙ not-false _ (c .before .before .before .before .before .before .before .before .if2 .left), sym (rows-short (lent (now (a .entries)) (now (a .features)) (now (a .buffer)))) ∙ sym (c .before .before .before .before .before .before .before .every-row2 .ensures) ∙ not-false _ (c .before .before .before .before .before .before .if3 .left), sym (rows-utf8 (lent (now (a .entries)) (now (a .features)) (now (a .buffer)))) ∙ sym (c .before .before .before .before .before .every-row3 .ensures) ∙ not-false _ (c .before .before .before .before .if4 .left), sym (rows-count (lent (now (a .entries)) (now (a .features)) (now (a .buffer)))) ∙ sym (c .before .before .before .every-row4 .ensures) ∙ not-false _ (c .before .before .if5 .left), sym (rows-lengths (lent (now (a .entries)) (now (a .features)) (now (a .buffer)))) ∙ sym (c .before .every-row5 .ensures) ∙ not-true _ (c .if6 .taken))
 
-entries-len-requires : tie.Need-entries-len-requires
-entries-len-requires c κs = sym (c .before .before .before .every-row4 .ensures) ∙ not-false _ (c .before .before .if5 .left)
-
 returns-7 : tie.Need-returns-7
 unfolding entriesSaid entriesAsked asked
 returns-7 c =
     let a = c .before .before .before .before .before .before .before .before .before .before .before .before .before .before .before .before .args in
-    rw (sym (c .before .before .before .before .before .before .before .before .before .before .before .before .tables-whole .ensures) ∙ not-false _ (c .before .before .before .before .before .before .before .before .before .before .before .if1 .left), sym (rows-inside (lent (now (a .entries)) (now (a .features)) (now (a .buffer)))) ∙ sym (c .before .before .before .before .before .before .before .before .before .before .every-row .ensures) ∙ not-false _ (c .before .before .before .before .before .before .before .before .before .if2 .left), sym (rows-short (lent (now (a .entries)) (now (a .features)) (now (a .buffer)))) ∙ sym (c .before .before .before .before .before .before .before .before .every-row2 .ensures) ∙ not-false _ (c .before .before .before .before .before .before .before .if3 .left), sym (rows-utf8 (lent (now (a .entries)) (now (a .features)) (now (a .buffer)))) ∙ sym (c .before .before .before .before .before .before .every-row3 .ensures) ∙ not-false _ (c .before .before .before .before .before .if4 .left), sym (rows-count (lent (now (a .entries)) (now (a .features)) (now (a .buffer)))) ∙ sym (c .before .before .before .before .every-row4 .ensures) ∙ not-false _ (c .before .before .before .if5 .left), sym (rows-lengths (lent (now (a .entries)) (now (a .features)) (now (a .buffer)))) ∙ sym (c .before .before .every-row5 .ensures) ∙ not-false _ (c .before .if6 .left), c .entries-len .ensures)
+    rw (sym (c .before .before .before .before .before .before .before .before .before .before .before .before .tables-whole .ensures) ∙ not-false _ (c .before .before .before .before .before .before .before .before .before .before .before .if1 .left), sym (rows-inside (lent (now (a .entries)) (now (a .features)) (now (a .buffer)))) ∙ sym (c .before .before .before .before .before .before .before .before .before .before .every-row .ensures) ∙ not-false _ (c .before .before .before .before .before .before .before .before .before .if2 .left), sym (rows-short (lent (now (a .entries)) (now (a .features)) (now (a .buffer)))) ∙ sym (c .before .before .before .before .before .before .before .before .every-row2 .ensures) ∙ not-false _ (c .before .before .before .before .before .before .before .if3 .left), sym (rows-utf8 (lent (now (a .entries)) (now (a .features)) (now (a .buffer)))) ∙ sym (c .before .before .before .before .before .before .every-row3 .ensures) ∙ not-false _ (c .before .before .before .before .before .if4 .left), sym (rows-count (lent (now (a .entries)) (now (a .features)) (now (a .buffer)))) ∙ sym (c .before .before .before .before .every-row4 .ensures) ∙ not-false _ (c .before .before .before .if5 .left), sym (rows-lengths (lent (now (a .entries)) (now (a .features)) (now (a .buffer)))) ∙ sym (c .before .before .every-row5 .ensures) ∙ not-false _ (c .before .if6 .left), c .entries-len .ensures ∙ entries-few (entriesOf (lent (now (a .entries)) (now (a .features)) (now (a .buffer)))) (sym (rows-count (lent (now (a .entries)) (now (a .features)) (now (a .buffer)))) ∙ sym (c .before .before .before .before .every-row4 .ensures) ∙ not-false _ (c .before .before .before .if5 .left)))
 
 pub ask-in-order-spec : {M : Type 1} → statement M
 ask-in-order-spec =
@@ -72,5 +70,5 @@ ask-in-order-spec =
     returns-5
     (λ c κs. search needs)
     returns-6
-    entries-len-requires
+    (λ c κs. search needs)
     returns-7)

@@ -1,5 +1,4 @@
 -- `entry_ask::ask_parts` meets its contract: each answer is the definition's, by the tests that led to it.
-use native.Mathlib.Omega.{arith}
 use mathlib.Core.List.{[]}
 use mathlib.Core.Path.{sym, _∙_}
 use denote.Ref.{now}
@@ -11,7 +10,8 @@ use Rattle.handshake.specs.Value.{entriesAsked}
 use Rattle.handshake.specs.Tables.{lent}
 use Rattle.entry_questions.specs.Questions.{rowHolds}
 use Rattle.entry_ask.specs.Asked.{partsSaid}
-use Rattle.entry_questions.specs.QuestionsLaws.{own-short, own-utf8, few-count}
+use Rattle.entry_rows.specs.ValueLaws.{own-short, own-utf8, few-count}
+use Rattle.entry_length.specs.LengthLaws.{entry-few}
 use Rattle.entry_ask.proofs.ask_parts.Statement.{statement}
 use Rattle.entry_ask.proofs.ask_parts.Tie as tie
 
@@ -43,14 +43,11 @@ returns-5 c =
     let a = c .before .before .before .before .before .before .before .before .before .before .before .before .args in
     rw (sym (c .before .before .before .before .before .before .before .before .before .entry-inside .ensures) ∙ not-false _ (c .before .before .before .before .before .before .before .before .if1 .left), sym (own-short (lent [] (now (a .features)) (now (a .buffer))) (a .e)) ∙ sym (c .before .before .before .before .before .before .before .strings-short .ensures) ∙ not-false _ (c .before .before .before .before .before .before .if2 .left), sym (own-utf8 (lent [] (now (a .features)) (now (a .buffer))) (a .e)) ∙ sym (c .before .before .before .before .before .strings-utf8 .ensures) ∙ not-false _ (c .before .before .before .before .if3 .left), few-count (lent [] (now (a .features)) (now (a .buffer))) (a .e) ∙ le-leb _ _ (c .before .before .if4 .left), sym (c .before .row-holds .ensures) ∙ not-true _ (c .if5 .taken))
 
-entry-len-requires : tie.Need-entry-len-requires
-entry-len-requires c κs = omega arith
-
 returns-6 : tie.Need-returns-6
 unfolding partsSaid entriesAsked asked every rowHolds
 returns-6 c =
     let a = c .before .before .before .before .before .before .before .before .before .before .before .before .before .args in
-    rw (sym (c .before .before .before .before .before .before .before .before .before .before .entry-inside .ensures) ∙ not-false _ (c .before .before .before .before .before .before .before .before .before .if1 .left), sym (own-short (lent [] (now (a .features)) (now (a .buffer))) (a .e)) ∙ sym (c .before .before .before .before .before .before .before .before .strings-short .ensures) ∙ not-false _ (c .before .before .before .before .before .before .before .if2 .left), sym (own-utf8 (lent [] (now (a .features)) (now (a .buffer))) (a .e)) ∙ sym (c .before .before .before .before .before .before .strings-utf8 .ensures) ∙ not-false _ (c .before .before .before .before .before .if3 .left), few-count (lent [] (now (a .features)) (now (a .buffer))) (a .e) ∙ le-leb _ _ (c .before .before .before .if4 .left), sym (c .before .before .row-holds .ensures) ∙ not-false _ (c .before .if5 .left), c .entry-len .ensures .0)
+    rw (sym (c .before .before .before .before .before .before .before .before .before .before .entry-inside .ensures) ∙ not-false _ (c .before .before .before .before .before .before .before .before .before .if1 .left), sym (own-short (lent [] (now (a .features)) (now (a .buffer))) (a .e)) ∙ sym (c .before .before .before .before .before .before .before .before .strings-short .ensures) ∙ not-false _ (c .before .before .before .before .before .before .before .if2 .left), sym (own-utf8 (lent [] (now (a .features)) (now (a .buffer))) (a .e)) ∙ sym (c .before .before .before .before .before .before .strings-utf8 .ensures) ∙ not-false _ (c .before .before .before .before .before .if3 .left), few-count (lent [] (now (a .features)) (now (a .buffer))) (a .e) ∙ le-leb _ _ (c .before .before .before .if4 .left), sym (c .before .before .row-holds .ensures) ∙ not-false _ (c .before .if5 .left), c .entry-len .ensures .0 ∙ entry-few _ (few-count (lent [] (now (a .features)) (now (a .buffer))) (a .e) ∙ le-leb _ _ (c .before .before .before .if4 .left)))
 
 pub ask-parts-spec : {M : Type 1} → statement M
 ask-parts-spec =
@@ -65,5 +62,5 @@ ask-parts-spec =
     returns-4
     (λ c κs. search needs)
     returns-5
-    entry-len-requires
+    (λ c κs. search needs)
     returns-6)

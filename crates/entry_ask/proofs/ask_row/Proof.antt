@@ -8,9 +8,7 @@ use Rattle.wire.specs.declared.Written.the-variants.{To}
 use Rattle.handshake.specs.Tables.{lent}
 use Rattle.entry_whole.specs.Whole.{numbersWhole}
 use Rattle.entry_ask.specs.Asked.{partsSaid}
-use Rattle.entry_questions.specs.QuestionsLaws.{row-few}
 use Rattle.entry_ask.specs.AskedLaws.{row-outside, row-broken, row-parts}
-use Rattle.entry_questions.specs.declared.About.the-variants.{Count}
 use Rattle.entry_ask.proofs.AnsweredLaws.{row-said}
 use Rattle.entry_ask.proofs.ask_row.Statement.{statement}
 use Rattle.entry_ask.proofs.ask_row.Tie as tie
@@ -20,9 +18,6 @@ returns c = let a = c .before .before .before .before .args in sym (row-outside 
 
 entry-at-requires : tie.Need-entry-at-requires
 entry-at-requires c κs = omega arith
-
-entry-len-requires : tie.Need-entry-len-requires
-entry-len-requires c κs = row-few _ _ _ (c .before .row-ready .ensures (c .if2 .taken) .holds Count)
 
 returns-2 : tie.Need-returns-2
 returns-2 c =
@@ -49,7 +44,7 @@ ask-row-spec =
     returns
     entry-at-requires
     (λ c κs. search needs)
-    entry-len-requires
+    (λ c κs. search needs)
     returns-2
     (λ c κs. search needs)
     returns-3

@@ -6,7 +6,8 @@ use denote.Ref.{now}
 use borrow.Author.Needs.{needs}
 use Rattle.handshake.specs.Tables.{lent}
 use Rattle.entry_questions.specs.Questions.{rowHolds}
-use Rattle.entry_questions.specs.QuestionsLaws.{own-short, own-utf8, few-count, features-lengths}
+use Rattle.entry_rows.specs.ValueLaws.{own-short, own-utf8, few-count}
+use Rattle.entry_questions.specs.QuestionsLaws.{features-lengths}
 use Rattle.entry_questions.proofs.row_holds.Statement.{statement}
 use Rattle.entry_questions.proofs.row_holds.Tie as tie
 

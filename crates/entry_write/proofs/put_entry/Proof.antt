@@ -7,8 +7,8 @@ use lib.ListN.{length-set}
 use Rattle.wire.specs.OutputLaws.{wrote-then, wrote-byte, wrote-length}
 use Rattle.handshake.specs.Tables.{lent, inside, entryInside}
 use Rattle.handshake.specs.TablesLaws.{address-part, own-range}
-use Rattle.entry_ask.specs.LengthLaws.{entry-parts, length-entry}
-use Rattle.entry_questions.specs.QuestionsLaws.{own-short}
+use Rattle.entry_length.specs.LengthLaws.{entry-parts, length-entry}
+use Rattle.entry_rows.specs.ValueLaws.{own-short}
 use Rattle.entry_write.proofs.put_entry.Statement.{statement}
 use Rattle.entry_write.proofs.put_entry.Tie as tie
 

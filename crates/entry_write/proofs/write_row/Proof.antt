@@ -14,7 +14,7 @@ use Rattle.handshake.specs.Writes.{entryAt, rowAsked}
 use Rattle.output_ask.specs.Asked.{placed}
 use Rattle.entry_whole.specs.Whole.{rowWhole}
 use Rattle.entry_ask.specs.Asked.{rowSaid}
-use Rattle.entry_questions.specs.QuestionsLaws.{own-entry}
+use Rattle.entry_rows.specs.ValueLaws.{own-entry}
 use Rattle.entry_ask.specs.AskedLaws.{placed-row}
 use Rattle.entry_write.specs.ReadyLaws.{row-in-table, row-ready}
 use Rattle.entry_write.proofs.write_row.Statement.{statement}

@@ -1,12 +1,12 @@
--- `entry_ask::address_len` meets its contract: the length does not depend on the address's bytes.
+-- `entry_length::address_len` meets its contract: the length does not depend on the address's bytes.
 use native.Mathlib.Omega.{arith}
 use mathlib.Core.Path.{sym, ap}
 use lib.ListN.{length}
 use borrow.Author.Needs.{needs}
 use Rattle.vlq.specs.VlqLaws.{vlq-ten}
-use Rattle.entry_ask.specs.LengthLaws.{length-v4, length-v6, address-none}
-use Rattle.entry_ask.proofs.address_len.Statement.{statement}
-use Rattle.entry_ask.proofs.address_len.Tie as tie
+use Rattle.entry_length.specs.LengthLaws.{length-v4, length-v6, address-none}
+use Rattle.entry_length.proofs.address_len.Statement.{statement}
+use Rattle.entry_length.proofs.address_len.Tie as tie
 
 add-result : tie.Need-add-result
 add-result c = omega (arith, c .vlq-len .ensures, vlq-ten (c .before .before .before .before .args .e .port) (omega arith))

@@ -1,4 +1,4 @@
--- `entry_ask::feature_len` meets its contract: an id byte, the VLQ of the body's length, the body.
+-- `entry_length::feature_len` meets its contract: an id byte, the VLQ of the body's length, the body.
 use Prim.Native.Nat.{ℕ}
 use native.Mathlib.Omega.{arith}
 use mathlib.Core.Path.{_≡_, ap, _∙_}
@@ -8,9 +8,9 @@ use borrow.Author.Needs.{needs}
 use Rattle.vlq.specs.Vlq.{vlqBytes}
 use Rattle.vlq.specs.VlqLaws.{vlq-ten}
 use Rattle.handshake.specs.Tables.{bytesAt}
-use Rattle.entry_ask.specs.LengthLaws.{length-bytesAt-le, length-feature}
-use Rattle.entry_ask.proofs.feature_len.Statement.{statement}
-use Rattle.entry_ask.proofs.feature_len.Tie as tie
+use Rattle.entry_length.specs.LengthLaws.{length-bytesAt-le, length-feature}
+use Rattle.entry_length.proofs.feature_len.Statement.{statement}
+use Rattle.entry_length.proofs.feature_len.Tie as tie
 
 add-result : tie.Need-add-result
 add-result c =

@@ -1,4 +1,4 @@
--- `entry_ask::features_len` meets its contract. The loop has counted the bytes of the rows before k.
+-- `entry_length::features_len` meets its contract. The loop has counted the bytes of the rows before k.
 use Prim.Native.Nat.{ℕ, _+_, _-_, _*_, _≤_}
 use native.Mathlib.Nat.{sub-zero}
 use native.Mathlib.Omega.{arith}
@@ -11,8 +11,8 @@ use Rattle.handshake.specs.declared.FeatureRow.{FeatureRow}
 use Rattle.handshake.specs.Value.{featureBytes}
 use Rattle.handshake.specs.Tables.{rows, featureRow, featureOf}
 use Rattle.handshake.specs.RowsLaws.{rows-from, bytes-next, bytes-none}
-use Rattle.entry_ask.proofs.features_len.Statement.{statement}
-use Rattle.entry_ask.proofs.features_len.Tie as tie
+use Rattle.entry_length.proofs.features_len.Statement.{statement}
+use Rattle.entry_length.proofs.features_len.Tie as tie
 
 abbrev Inv-loop : tie.InvT-loop
 Inv-loop features buffer first count m₀ k₀ m k =
