@@ -12,8 +12,8 @@ use Rattle.types.specs.declared.Version.{Version}
 use Rattle.types.specs.declared.Address.{Address}
 use Rattle.handshake.specs.Value.{handshakeBytes}
 use Rattle.handshake.specs.Writes.{built, builtWritten}
-use Rattle.handshake_write.specs.declared.Config.{Config}
-use Rattle.handshake_write.specs.Parts.{configOf}
+use Rattle.handshake_build.specs.declared.Config.{Config}
+use Rattle.handshake_build.specs.Parts.{configOf}
 
 -- a Config of these parts
 abbrev pub made : Network → ProxyMode → ℕ → Bool → ℤ → Version → Address → ℕ → ℤ → Config

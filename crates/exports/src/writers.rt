@@ -6,11 +6,11 @@ ghost use Rattle.frame.specs.Writes.{frameWritten};
 ghost use Rattle.handshake.specs.Value.{entryBytes, handshakeBytes};
 ghost use Rattle.handshake.specs.Tables.{lent};
 ghost use Rattle.handshake.specs.Writes.{entryAt, entryWritten, handshakeAt, handshakeWritten, built, builtWritten};
-ghost use Rattle.handshake_write.specs.Parts.{configOf};
+ghost use Rattle.handshake_build.specs.Parts.{configOf};
 ghost use Rattle.messages.specs.Writes.{writeGetPeers, writePeers, writeModifierRequest, writeModifierResponse, writeInv, writeSyncInfo, writeUnknown, valueOf, messageBytes, messageWritten};
 ghost use Rattle.exports.specs.Results.{writtenNumber, endAfter, networkOf};
 ghost use Rattle.exports.specs.Configs.{isSet, modeOf, addressFrom, builtFrom};
-use handshake_write::Config;
+use handshake_build::Config;
 use types::Address;
 use types::ProxyMode;
 use types::Version;
@@ -317,7 +317,7 @@ pub extern "C" fn haspeljo_build(
         timestamp,
         session,
     };
-    match handshake_write::build(out, at, config, agent, name) {
+    match handshake_build::build(out, at, config, agent, name) {
         Written::To(end) => {
             *r = [end as u64];
             0

@@ -1,2 +1,2 @@
-pub mod Parts
-pub mod PartsLaws
+pub mod Behind
+pub mod BehindLaws

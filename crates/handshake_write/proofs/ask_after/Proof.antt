@@ -1,8 +1,8 @@
 -- `handshake_write::ask_after` meets its contract: one arm for each answer.
 use mathlib.Core.Path.{_∙_}
 use borrow.Author.Needs.{needs}
-use Rattle.handshake_write.specs.Parts.{longer}
-use Rattle.handshake_write.specs.PartsLaws.{placed-full}
+use Rattle.handshake_write.specs.Behind.{longer}
+use Rattle.handshake_write.specs.BehindLaws.{placed-full}
 use Rattle.handshake_write.proofs.ask_after.Statement.{statement}
 use Rattle.handshake_write.proofs.ask_after.Tie as tie
 

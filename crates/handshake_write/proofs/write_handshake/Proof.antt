@@ -14,7 +14,7 @@ use Rattle.vlq_write.specs.CheckedLaws.{said}
 use Rattle.handshake.specs.Value.{entryBytes, handshakeBytes}
 use Rattle.handshake.specs.Tables.{lent, tablesWhole}
 use Rattle.handshake.specs.Writes.{entryAt, rowAsked, handshakeAt, entryWritten, handshakeWritten}
-use Rattle.handshake_write.specs.PartsLaws.{length-handshake, handshake-said, kept-full, behind-stored, behind-refused}
+use Rattle.handshake_write.specs.BehindLaws.{length-handshake, handshake-said, kept-full, behind-stored, behind-refused}
 use Rattle.handshake_write.proofs.write_handshake.Statement.{statement}
 use Rattle.handshake_write.proofs.write_handshake.Tie as tie
 

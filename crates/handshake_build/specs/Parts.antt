@@ -1,0 +1,60 @@
+-- The parts that `build` is put together from.
+use Prim.Native.Nat.{ℕ, _≤_}
+use mathlib.Core.Bool.{true}
+use mathlib.Core.List.{List, [], _∷_, _++_}
+use mathlib.Core.Path.{_≡_}
+use lib.ListN.{length}
+use Rattle.wire.specs.declared.Written.{Written}
+use Rattle.wire.specs.declared.Written.the-variants.{To, Refused}
+use Rattle.utf8.specs.Utf8.{utf8}
+use Rattle.vlq.specs.Vlq.{vlqBytes}
+use Rattle.vlq.specs.ShortString.{shortStringBytes}
+use Rattle.output_ask.specs.Asked.{writtenFor}
+use Rattle.handshake.specs.Value.{featureBytes, versionBytes, handshakeBytes, entriesAsked}
+use Rattle.handshake.specs.Writes.{built}
+use Rattle.handshake.specs.Writes as writes
+use Rattle.feature_write.specs.Features.{modeOf, sessionOf}
+use Rattle.handshake_build.specs.declared.Config.{Config}
+
+unfoldable pub endOf : Written → ℕ
+endOf (To e) = e
+endOf (Refused m) = 0
+
+-- what `build` is given, as its definition has it
+abbrev pub configOf : Config → List ℕ → List ℕ → writes.Config
+configOf c agent name =
+    record {
+      network = c .network;
+      mode = c .mode;
+      stateType = c .statetype;
+      verifying = c .verifying;
+      blocksToKeep = c .blocks;
+      agent = agent;
+      version = c .version;
+      name = name;
+      address = c .address;
+      timestamp = c .timestamp;
+      sessionId = c .session;
+    }
+
+-- what `build` says of an output of len bytes
+unfoldable pub builtSaid : ℕ → ℕ → writes.Config → Written
+builtSaid len at c = writtenFor [] (entriesAsked (built c .entry ∷ [])) len at (length (handshakeBytes (built c)))
+
+-- agent and name that are accepted
+pub record BuildReady (agent name : List ℕ) : Type 0 where
+  pub shortagent : length agent ≤ 255
+  pub shortname : length name ≤ 255
+  pub utfagent : utf8 agent ≡ true
+  pub utfname : utf8 name ≡ true
+
+-- timestamp, agent, version and name
+unfoldable pub headBytes : Config → List ℕ → List ℕ → List ℕ
+headBytes c agent name = vlqBytes (c .timestamp) ++ (shortStringBytes agent ++ (versionBytes (c .version) ++ shortStringBytes name))
+
+-- the two features
+unfoldable pub modeBytes : Config → List ℕ
+modeBytes c = featureBytes (modeOf (c .mode) (c .statetype) (c .verifying) (c .blocks))
+
+unfoldable pub sessionBytes : Config → List ℕ
+sessionBytes c = featureBytes (sessionOf (c .network) (c .session))

@@ -1,0 +1,108 @@
+-- Laws of the parts of `build`: a writer that is not refused ends after its bytes, the handshake is its parts one after the other, and what is asked
+-- of it.
+use Prim.Native.Nat.{ℕ, _+_, _≤_}
+use native.Mathlib.Omega.{arith}
+use mathlib.Core.Bool.{true, _&&_}
+use mathlib.Core.List.{List, [], _∷_, _++_, flatMap, append-assoc, append-nil}
+use mathlib.Core.Path.{_≡_, sym, ap, _∙_}
+use lib.Dec.{leb}
+use lib.IntN.{ℤ}
+use lib.ListN.{length, length-append}
+use borrow.Author.Tests.{le-leb, leb-true}
+use Rattle.wire.specs.Bytes.{every}
+use Rattle.wire.specs.BytesLaws.{and-true}
+use Rattle.wire.specs.Output.{Question, asked, written, outputAfter}
+use Rattle.wire.specs.OutputLaws.{Wrote, AllHold, written-to, wrote-checked}
+use Rattle.wire.specs.declared.Written.{Written}
+use Rattle.wire.specs.declared.Written.the-variants.{To}
+use Rattle.utf8.specs.Utf8.{utf8}
+use Rattle.vlq.specs.Vlq.{limit, vlqBytes}
+use Rattle.vlq.specs.ShortString.{shortStringBytes}
+use Rattle.handshake.specs.Value.{FeatureValue, featureBytes, versionBytes, addressBytes, entryBytes, handshakeBytes, shortStrings, utf8Strings, fewFeatures, lengthsWithin, entriesAsked}
+use Rattle.handshake.specs.Writes.{modeFeature, sessionFeature, built}
+use Rattle.output_ask.specs.Asked.{placed}
+use Rattle.feature_write.specs.Features.{modeOf, sessionOf}
+use Rattle.handshake_build.specs.declared.Config.{Config}
+use Rattle.handshake_build.specs.Parts.{endOf, configOf, builtSaid, BuildReady, headBytes, modeBytes, sessionBytes}
+
+-- a writer whose questions hold and that has room ends after its bytes
+pub wrote-end : (before after : List Question) (out : List ℕ) (at : ℕ) (bs : List ℕ) {r : Written} {last : List ℕ} {e : ℕ}
+    → r ≡ written before after out at bs → last ≡ outputAfter r out at bs → e ≡ endOf r
+    → AllHold before → AllHold after → at + length bs ≤ length out → Wrote out at bs e last
+unfolding endOf
+wrote-end before after out at bs says left is f t h =
+    record { end = is ∙ ap endOf (says ∙ written-to before after out at bs f t h); bytes = wrote-checked before after out at bs says left f t h .bytes }
+
+-- of bytes that depend on a signed number, which was passed on
+pub wrote-passed : (out : List ℕ) (at : ℕ) (bytes : ℤ → List ℕ) (n : ℤ) {m : ℤ} {r : Written} {last : List ℕ} {e : ℕ} → m ≡ n
+    → r ≡ written [] [] out at (bytes m) → last ≡ outputAfter r out at (bytes m) → e ≡ endOf r
+    → at + length (bytes n) ≤ length out → Wrote out at (bytes n) e last
+wrote-passed out at bytes n {m} {r} p says left is h =
+    wrote-end [] [] out at (bytes n)
+    (says ∙ ap (λ (k : ℤ). written [] [] out at (bytes k)) p)
+    (left ∙ ap (λ (k : ℤ). outputAfter r out at (bytes k)) p)
+    is tt tt h
+
+regroup : (a b v n r : List ℕ) → (a ++ (b ++ (v ++ n))) ++ r ≡ a ++ (b ++ (v ++ (n ++ r)))
+regroup a b v n r =
+    append-assoc a (b ++ (v ++ n)) r
+    ∙ ap (λ (l : List ℕ). a ++ l) (append-assoc b (v ++ n) r ∙ ap (λ (l : List ℕ). b ++ l) (append-assoc v n r))
+
+-- a body is no longer than its feature
+body-within : (f : FeatureValue) → length (f .body) ≤ length (featureBytes f)
+unfolding featureBytes
+body-within f = omega (arith, length-append (vlqBytes (length (f .body))) (f .body))
+
+module _ (c : Config) (agent name : List ℕ) where
+  pub built-parts : handshakeBytes (built (configOf c agent name)) ≡ headBytes c agent name ++ (addressBytes (c .address) ++ ((2 ∷ []) ++ (modeBytes c ++ sessionBytes c)))
+  unfolding handshakeBytes entryBytes built headBytes flatMap modeFeature sessionFeature modeOf sessionOf modeBytes sessionBytes
+  built-parts =
+      ap
+      (λ (l : List ℕ). vlqBytes (c .timestamp) ++ (shortStringBytes agent ++ (versionBytes (c .version) ++ (shortStringBytes name ++ (addressBytes (c .address) ++ (2 ∷ (modeBytes c ++ l)))))))
+      (append-nil (sessionBytes c))
+      ∙ sym (regroup (vlqBytes (c .timestamp)) (shortStringBytes agent) (versionBytes (c .version)) (shortStringBytes name) (addressBytes (c .address) ++ (2 ∷ (modeBytes c ++ sessionBytes c))))
+
+  pub length-head : length (headBytes c agent name) ≡ length (vlqBytes (c .timestamp)) + (5 + length agent + length name)
+  unfolding headBytes versionBytes
+  length-head =
+      omega (
+        arith,
+        length-append (vlqBytes (c .timestamp)) (shortStringBytes agent ++ (versionBytes (c .version) ++ shortStringBytes name)),
+        length-append (shortStringBytes agent) (versionBytes (c .version) ++ shortStringBytes name),
+        length-append (versionBytes (c .version)) (shortStringBytes name),
+      )
+
+  pub length-built : length (handshakeBytes (built (configOf c agent name)))
+      ≡ length (headBytes c agent name) + length (addressBytes (c .address)) + (1 + length (modeBytes c) + length (sessionBytes c))
+  length-built =
+      omega (
+        arith,
+        ap length built-parts,
+        length-append (headBytes c agent name) (addressBytes (c .address) ++ ((2 ∷ []) ++ (modeBytes c ++ sessionBytes c))),
+        length-append (addressBytes (c .address)) ((2 ∷ []) ++ (modeBytes c ++ sessionBytes c)),
+        length-append (modeBytes c) (sessionBytes c),
+      )
+
+  -- once the strings are accepted, the room alone is left to ask
+  pub built-placed : length (modeBytes c) ≤ 16 → length (sessionBytes c) ≤ 16 → (len at : ℕ) → at ≤ len → BuildReady agent name
+      → placed len at (To (length (handshakeBytes (built (configOf c agent name))))) ≡ builtSaid len at (configOf c agent name)
+  unfolding placed builtSaid entriesAsked asked every shortStrings utf8Strings fewFeatures lengthsWithin built modeFeature sessionFeature modeOf sessionOf modeBytes sessionBytes
+  built-placed mode session len at h ready =
+      let m = modeFeature (configOf c agent name) in
+      let s = sessionFeature (configOf c agent name) in
+      rw (
+        le-leb at len h,
+        le-leb (length agent) 255 (ready .shortagent),
+        le-leb (length name) 255 (ready .shortname),
+        ready .utfagent,
+        ready .utfname,
+        le-leb (length (m .body)) limit (omega (arith, mode, body-within m)),
+        le-leb (length (s .body)) limit (omega (arith, session, body-within s)),
+      )
+
+  pub build-ready : AllHold (entriesAsked (built (configOf c agent name) .entry ∷ [])) → BuildReady agent name
+  unfolding entriesAsked every shortStrings utf8Strings built
+  build-ready holds =
+      let s = and-true (leb (length agent) 255) (leb (length name) 255) (and-true (leb (length agent) 255 && leb (length name) 255) true (holds .0) .0) in
+      let u = and-true (utf8 agent) (utf8 name) (and-true (utf8 agent && utf8 name) true (holds .1 .0) .0) in
+      record { shortagent = leb-true (length agent) 255 (s .0); shortname = leb-true (length name) 255 (s .1); utfagent = u .0; utfname = u .1 }
