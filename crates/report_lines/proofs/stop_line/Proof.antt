@@ -6,15 +6,15 @@ use Rattle.report_lines.proofs.stop_line.Tie as tie
 
 returns : tie.Need-returns
 unfolding stopText
-returns c = rw (c .before .before .enum-told .given .1) (c .put-handshake-stop .ensures)
+returns c = rw (c .before .before .enum-told .given .1) (search needs)
 
 returns-2 : tie.Need-returns-2
 unfolding stopText
-returns-2 c = rw (c .before .before .enum-told2 .given .1) (c .put-frame-stop .ensures)
+returns-2 c = rw (c .before .before .enum-told2 .given .1) (search needs)
 
 returns-3 : tie.Need-returns-3
 unfolding stopText
-returns-3 c = rw (c .before .before .enum-told3 .given .1) (c .put-body-stop .ensures)
+returns-3 c = rw (c .before .before .enum-told3 .given .1) (search needs)
 
 pub stop-line-spec : {M : Type 1} → statement M
 stop-line-spec =
