@@ -1,8 +1,8 @@
--- `exports::bodies::message_numbers` meets its contract: case by case.
-use Rattle.exports.specs.Messages.{messageNumbers}
+-- `export_arrays::bodies::message_numbers` meets its contract: case by case.
+use Rattle.export_arrays.specs.Messages.{messageNumbers}
 use borrow.Author.Needs.{needs}
-use Rattle.exports.proofs.bodies.message_numbers.Statement.{statement}
-use Rattle.exports.proofs.bodies.message_numbers.Tie as tie
+use Rattle.export_arrays.proofs.bodies.message_numbers.Statement.{statement}
+use Rattle.export_arrays.proofs.bodies.message_numbers.Tie as tie
 
 returns : tie.Need-returns
 unfolding messageNumbers

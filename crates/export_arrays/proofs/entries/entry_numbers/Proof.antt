@@ -1,8 +1,8 @@
--- `exports::handshakes::entry_numbers` meets its contract, case by case.
+-- `export_arrays::entries::entry_numbers` meets its contract, case by case.
 use borrow.Author.Needs.{needs}
-use Rattle.exports.specs.Entries.{withAddress}
-use Rattle.exports.proofs.handshakes.entry_numbers.Statement.{statement}
-use Rattle.exports.proofs.handshakes.entry_numbers.Tie as tie
+use Rattle.export_arrays.specs.Entries.{withAddress}
+use Rattle.export_arrays.proofs.entries.entry_numbers.Statement.{statement}
+use Rattle.export_arrays.proofs.entries.entry_numbers.Tie as tie
 
 returns : tie.Need-returns
 unfolding withAddress

@@ -1,9 +1,9 @@
--- `exports::handshakes::url_numbers` meets its contract, case by case.
+-- `export_arrays::entries::url_numbers` meets its contract, case by case.
 use borrow.Author.Needs.{needs}
 use Rattle.handshake_verdict.specs.Answers.{url}
-use Rattle.exports.specs.Entries.{urlNext}
-use Rattle.exports.proofs.handshakes.url_numbers.Statement.{statement}
-use Rattle.exports.proofs.handshakes.url_numbers.Tie as tie
+use Rattle.export_arrays.specs.Entries.{urlNext}
+use Rattle.export_arrays.proofs.entries.url_numbers.Statement.{statement}
+use Rattle.export_arrays.proofs.entries.url_numbers.Tie as tie
 
 returns : tie.Need-returns
 unfolding urlNext

@@ -1,10 +1,10 @@
--- `exports::network_of` meets its contract: 0 is testnet, any other number mainnet.
+-- `export_arrays::network_of` meets its contract: 0 is testnet, any other number mainnet.
 use Prim.Native.Nat.{suc, _-_}
 use native.Mathlib.Omega.{arith}
 use mathlib.Core.Path.{_≡_}
-use Rattle.exports.specs.Results.{networkOf}
-use Rattle.exports.proofs.network_of.Statement.{statement}
-use Rattle.exports.proofs.network_of.Tie as tie
+use Rattle.export_arrays.specs.Networks.{networkOf}
+use Rattle.export_arrays.proofs.network_of.Statement.{statement}
+use Rattle.export_arrays.proofs.network_of.Tie as tie
 
 returns : tie.Need-returns
 unfolding networkOf

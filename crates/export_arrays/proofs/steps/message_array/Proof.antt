@@ -1,8 +1,8 @@
--- `exports::sessions::message_array` meets its contract: case by case.
-use Rattle.exports.specs.Steps.{withMessage}
+-- `export_arrays::steps::message_array` meets its contract: case by case.
+use Rattle.export_arrays.specs.Steps.{withMessage}
 use borrow.Author.Needs.{needs}
-use Rattle.exports.proofs.sessions.message_array.Statement.{statement}
-use Rattle.exports.proofs.sessions.message_array.Tie as tie
+use Rattle.export_arrays.proofs.steps.message_array.Statement.{statement}
+use Rattle.export_arrays.proofs.steps.message_array.Tie as tie
 
 returns : tie.Need-returns
 unfolding withMessage

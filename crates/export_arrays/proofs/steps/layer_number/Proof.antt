@@ -1,8 +1,8 @@
--- `exports::sessions::layer_number` meets its contract: case by case.
-use Rattle.exports.specs.Steps.{layerNumber}
+-- `export_arrays::steps::layer_number` meets its contract: case by case.
+use Rattle.export_arrays.specs.Steps.{layerNumber}
 use borrow.Author.Needs.{needs}
-use Rattle.exports.proofs.sessions.layer_number.Statement.{statement}
-use Rattle.exports.proofs.sessions.layer_number.Tie as tie
+use Rattle.export_arrays.proofs.steps.layer_number.Statement.{statement}
+use Rattle.export_arrays.proofs.steps.layer_number.Tie as tie
 
 returns : tie.Need-returns
 unfolding layerNumber
