@@ -8,8 +8,8 @@ use Rattle.wire.specs.declared.Written.{Written}
 use Rattle.wire.specs.declared.Written.the-variants.{To, Refused}
 use Rattle.messages_read.specs.declared.Peers.{Peers}
 use Rattle.messages_read.specs.declared.Message.the-variants as Messages
+use Rattle.export_arrays.specs.Messages.{messageNumbers}
 use Rattle.exports.specs.Results.{numberOf, arrayAfter, writtenNumber, endAfter}
-use Rattle.exports.specs.Messages.{messageNumbers}
 
 -- a reader said r, which means the answer; s is the case that r is, and last is stored in the array
 module _ {R A : Type 0} (meaning : R → Answer A) (values : A → ℕ → List ℕ) (array : List ℕ) {r s : R} {answer : Answer A} (says : meaning r ≡ answer) (is : r ≡ s) where

@@ -8,7 +8,7 @@ use Rattle.types.specs.declared.ProxyMode.the-variants.{Full, Light}
 use Rattle.types.specs.declared.Address.{Address}
 use Rattle.types.specs.declared.Address.the-variants.{None, V4, V6}
 use Rattle.handshake_build.specs.declared.Config.{Config}
-use Rattle.exports.specs.Results.{networkOf}
+use Rattle.export_arrays.specs.Networks.{networkOf}
 
 unfoldable pub isSet : ℕ → Bool
 isSet zero = false

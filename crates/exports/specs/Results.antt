@@ -1,13 +1,11 @@
 -- What an exported function leaves: 0, with the values in the lent array; or the refusal number, with the array as it was.
-use Prim.Native.Nat.{ℕ, zero, suc}
+use Prim.Native.Nat.{ℕ}
 use mathlib.Core.Bool.{Bool, true, false}
 use mathlib.Core.List.{List, [], _∷_}
 use Rattle.wire.specs.Reader.{Answer, got, refused}
 use Rattle.wire.specs.declared.Part.{Part}
 use Rattle.wire.specs.declared.Written.{Written}
 use Rattle.wire.specs.declared.Written.the-variants.{To, Refused}
-use Rattle.types.specs.declared.Network.{Network}
-use Rattle.types.specs.declared.Network.the-variants.{Mainnet, Testnet}
 
 -- ---- readers
 
@@ -41,8 +39,3 @@ endAfter (Refused m) array = array
 abbrev pub bit : Bool → ℕ
 bit true = 1
 bit false = 0
-
--- 0 is testnet, any other number mainnet
-unfoldable pub networkOf : ℕ → Network
-networkOf zero = Testnet
-networkOf (suc n) = Mainnet

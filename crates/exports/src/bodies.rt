@@ -8,13 +8,15 @@ ghost use Rattle.inventory_read.specs.Parts.{idAt, payloadAt};
 ghost use Rattle.inventory_read.specs.Answers.{idOf, payloadOf, payloadSum};
 ghost use Rattle.messages_read.specs.Parts.{entryAt};
 ghost use Rattle.messages_read.specs.Answers.{messageOf};
-ghost use Rattle.exports.specs.Results.{numberOf, arrayAfter, networkOf};
-ghost use Rattle.exports.specs.Entries.{entryNext};
-ghost use Rattle.exports.specs.Messages.{messageNumbers, idOnly, payloadNext, payloadTotal};
+ghost use Rattle.export_arrays.specs.Networks.{networkOf};
+ghost use Rattle.export_arrays.specs.Entries.{entryNext};
+ghost use Rattle.export_arrays.specs.Messages.{messageNumbers, idOnly, payloadNext, payloadTotal};
+ghost use Rattle.exports.specs.Results.{numberOf, arrayAfter};
+use export_arrays::bodies::message_numbers;
+use export_arrays::entries::entry_numbers;
 use inventory_read::IdRead;
 use inventory_read::PayloadAt;
 use inventory_read::PayloadRead;
-use messages_read::Message;
 use messages_read::MessageRead;
 use messages_read::PeerRead;
 use messages_read::PeersRead;
@@ -81,7 +83,7 @@ pub extern "C" fn haspeljo_entry_by_index(
 {
     match messages_read::entry_by_index(body, cap, index) {
         PeerRead::Value(peer, next) => {
-            *r = crate::handshakes::entry_numbers(0, peer, next.0);
+            *r = entry_numbers(0, peer, next.0);
             0
         }
         PeerRead::Refused(m) => m,
@@ -142,43 +144,5 @@ pub extern "C" fn haspeljo_payload_by_index(body: &[u8], index: usize, r: &mut [
             0
         }
         PayloadAt::Refused(m) => m,
-    }
-}
-
-fn message_numbers(m: Message, next: usize) -> [u64; 5]
-    ensures { λ r. ⌜ r ≡ messageNumbers m next ⌝ }
-{
-    match m {
-        Message::GetPeers => [0, 0, 0, 0, next as u64],
-        Message::Peers(p) => [
-            0,
-            p.count as u64,
-            p.bogus as u64,
-            p.start.0 as u64,
-            next as u64,
-        ],
-        Message::ModifierRequest(i) => [
-            i.kind as u64,
-            i.count as u64,
-            0,
-            i.start.0 as u64,
-            next as u64,
-        ],
-        Message::ModifierResponse(i) => [
-            i.kind as u64,
-            i.count as u64,
-            0,
-            i.start.0 as u64,
-            next as u64,
-        ],
-        Message::Inv(i) => [
-            i.kind as u64,
-            i.count as u64,
-            0,
-            i.start.0 as u64,
-            next as u64,
-        ],
-        Message::SyncInfo => [0, 0, 0, 0, next as u64],
-        Message::Unknown => [0, 0, 0, 0, next as u64],
     }
 }

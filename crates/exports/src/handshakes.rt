@@ -6,17 +6,17 @@ ghost use Rattle.handshake.specs.Verdict.{validatePeer};
 ghost use Rattle.handshake_read.specs.Parts.{featureAt};
 ghost use Rattle.handshake_read.specs.Answers.{featureOf, peerSpecOf, handshakeOf};
 ghost use Rattle.handshake_verdict.specs.Answers.{handshakeVerdict, entryUrl, url};
-ghost use Rattle.exports.specs.Results.{numberOf, arrayAfter, valueNext, networkOf};
-ghost use Rattle.exports.specs.Entries.{entryArray, entryNumbers, handshakeNext, entryNext, featureNext, sizeOnly, urlNext};
+ghost use Rattle.export_arrays.specs.Networks.{networkOf};
+ghost use Rattle.export_arrays.specs.Entries.{handshakeNext, entryNext, featureNext, sizeOnly, urlNext};
+ghost use Rattle.exports.specs.Results.{numberOf, arrayAfter, valueNext};
+use export_arrays::entries::entry_numbers;
+use export_arrays::entries::url_numbers;
 use handshake_read::EntryRead;
 use handshake_read::FeatureRead;
 use handshake_read::HandshakeRead;
-use handshake_read::PeerSpec;
 use handshake_read::SizeRead;
-use handshake_verdict::Url;
 use handshake_verdict::UrlRead;
 use handshake_verdict::VerdictRead;
-use types::Address;
 use vlq::Cursor;
 
 // A handshake from the first byte on. r is the timestamp; of the entry the agent's place and length, three version numbers, the name's place and
@@ -154,54 +154,4 @@ pub extern "C" fn haspeljo_rest_api_url(s: &[u8], at: usize, r: &mut [u64; 4]) -
         }
         UrlRead::Refused(m) => m,
     }
-}
-
-fn url_numbers(u: Url, next: usize) -> [u64; 4]
-    ensures { λ r. ⌜ r ≡ urlNext (url u) next ⌝ }
-{
-    match u {
-        Url::At(p) => [1, p.start as u64, p.len as u64, next as u64],
-        Url::None => [0, 0, 0, next as u64],
-    }
-}
-
-pub(crate) fn entry_numbers(timestamp: u64, p: PeerSpec, next: usize) -> [u64; 15]
-    ensures { λ r. ⌜ r ≡ entryNumbers timestamp p next ⌝ }
-{
-    let a = p.address;
-    match a {
-        Address::None => entry_array(timestamp, p, 0, 0, 0, 0, next),
-        Address::V4(ip, port) => entry_array(timestamp, p, 4, ip as u64, 0, port, next),
-        Address::V6(high, low, port) => entry_array(timestamp, p, 6, high, low, port, next),
-    }
-}
-
-fn entry_array(
-    timestamp: u64,
-    p: PeerSpec,
-    kind: u64,
-    high: u64,
-    low: u64,
-    port: u16,
-    next: usize,
-) -> [u64; 15]
-    ensures { λ r. ⌜ r ≡ entryArray timestamp p kind high low port next ⌝ }
-{
-    [
-        timestamp,
-        p.agent.start as u64,
-        p.agent.len as u64,
-        p.version.major as u64,
-        p.version.minor as u64,
-        p.version.patch as u64,
-        p.name.start as u64,
-        p.name.len as u64,
-        kind,
-        high,
-        low,
-        port as u64,
-        p.features.count as u64,
-        p.features.start as u64,
-        next as u64,
-    ]
 }

@@ -12,7 +12,8 @@ ghost use Rattle.zigzag.specs.Zigzag.{zigzagEncode, zigzagDecode};
 ghost use Rattle.types.specs.declared.Address.the-variants.{V4, V6};
 ghost use Rattle.address_sanity.specs.Bogus.{bogus};
 ghost use Rattle.blake2b.specs.Blake2b.{blake2b256, check};
-ghost use Rattle.exports.specs.Results.{numberOf, arrayAfter, valueNext, partNext, writtenNumber, endAfter, bit, networkOf};
+ghost use Rattle.export_arrays.specs.Networks.{networkOf};
+ghost use Rattle.exports.specs.Results.{numberOf, arrayAfter, valueNext, partNext, writtenNumber, endAfter, bit};
 
 pub mod bodies;
 pub mod frames;
@@ -20,8 +21,8 @@ pub mod handshakes;
 mod sessions;
 mod writers;
 
+use export_arrays::network_of;
 use types::Address;
-use types::Network;
 use vlq::ByteRead;
 use vlq::Cursor;
 use vlq::PartRead;
@@ -219,16 +220,6 @@ pub extern "C" fn haspeljo_is_bogus_v6(high: u64, low: u64, port: u16, mainnet: 
         1
     } else {
         0
-    }
-}
-
-fn network_of(mainnet: u8) -> Network
-    ensures { λ r. ⌜ r ≡ networkOf mainnet ⌝ }
-{
-    if mainnet == 0 {
-        Network::Testnet
-    } else {
-        Network::Mainnet
     }
 }
 

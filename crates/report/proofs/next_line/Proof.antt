@@ -7,7 +7,7 @@ use denote.Ref.{now}
 use lib.ListN.{length}
 use Rattle.wire.specs.OutputLaws.{Wrote}
 use Rattle.report.specs.Report.{nextOf}
-use Rattle.report.proofs.OtherLaws.{last-step}
+use Rattle.report.proofs.LastLaws.{last-step}
 use borrow.Author.Needs.{needs}
 use Rattle.report.proofs.next_line.Statement.{statement}
 use Rattle.report.proofs.next_line.Tie as tie

@@ -1,0 +1,4 @@
+pub mod Networks
+pub mod Entries
+pub mod Messages
+pub mod Steps
