@@ -1,11 +1,11 @@
--- `messages_write::write_ids` meets its contract: the questions were answered by sizes, and the frame was stored once all held.
+-- `inventory_write::write_ids` meets its contract: the questions were answered by sizes, and the frame was stored once all held.
 use denote.Ref.{now}
 use lib.ListN.{length}
 use borrow.Author.Needs.{needs}
 use Rattle.wire.specs.StandingLaws.{after-put, after-refused}
-use Rattle.messages_write.specs.MessageWriteLaws.{asked-ids}
-use Rattle.messages_write.proofs.write_ids.Statement.{statement}
-use Rattle.messages_write.proofs.write_ids.Tie as tie
+use Rattle.inventory_write.specs.InventoryWriteLaws.{asked-ids}
+use Rattle.inventory_write.proofs.write_ids.Statement.{statement}
+use Rattle.inventory_write.proofs.write_ids.Tie as tie
 
 put-ids-requires : tie.Need-put-ids-requires
 put-ids-requires c κs =

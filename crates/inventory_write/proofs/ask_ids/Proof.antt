@@ -1,4 +1,4 @@
--- `messages_write::ask_ids` meets its contract: each answer is the definition's, by the tests that led to it.
+-- `inventory_write::ask_ids` meets its contract: each answer is the definition's, by the tests that led to it.
 use native.Mathlib.Omega.{arith}
 use mathlib.Core.Path.{sym, _∙_}
 use denote.Ref.{now}
@@ -7,10 +7,10 @@ use borrow.Author.Needs.{needs}
 use borrow.Author.Tests.{le-leb, lt-leb, not-true, not-false}
 use Rattle.wire.specs.Output.{asked}
 use Rattle.frame_write.specs.Asked.{frameWrittenFor}
-use Rattle.messages_write.specs.Asked.{idsWrittenFor}
-use Rattle.messages_write.specs.MessageWriteLaws.{length-idsBytes}
-use Rattle.messages_write.proofs.ask_ids.Statement.{statement}
-use Rattle.messages_write.proofs.ask_ids.Tie as tie
+use Rattle.inventory_write.specs.Asked.{idsWrittenFor}
+use Rattle.inventory_write.specs.InventoryWriteLaws.{length-idsBytes}
+use Rattle.inventory_write.proofs.ask_ids.Statement.{statement}
+use Rattle.inventory_write.proofs.ask_ids.Tie as tie
 
 returns : tie.Need-returns
 unfolding idsWrittenFor asked

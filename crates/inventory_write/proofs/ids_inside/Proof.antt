@@ -1,4 +1,4 @@
--- `messages_write::ids_inside` meets its contract: the rows before i are inside the buffer.
+-- `inventory_write::ids_inside` meets its contract: the rows before i are inside the buffer.
 use Prim.Native.Nat.{_+_, _-_}
 use native.Mathlib.Omega.{arith}
 use lib.Dec.{leb}
@@ -6,8 +6,8 @@ use lib.ListN.{length, getD}
 use borrow.Author.Needs.{needs}
 use borrow.Author.Tests.{le-leb, lt-leb}
 use Rattle.handshake.specs.RowsLaws.{Passed, passed-start, passed-next, passed-not, passed-end}
-use Rattle.messages_write.proofs.ids_inside.Statement.{statement}
-use Rattle.messages_write.proofs.ids_inside.Tie as tie
+use Rattle.inventory_write.proofs.ids_inside.Statement.{statement}
+use Rattle.inventory_write.proofs.ids_inside.Tie as tie
 
 abbrev Inv-loop : tie.InvT-loop
 Inv-loop ids len i₀ i = Passed (λ at. leb (at + 32) len) (λ k. getD ids k 0) (length ids) i

@@ -1,13 +1,13 @@
--- `messages_write::put_body` meets its contract: the type byte was stored, the count, and then the ids.
+-- `inventory_write::put_body` meets its contract: the type byte was stored, the count, and then the ids.
 use native.Mathlib.Omega.{arith}
 use mathlib.Core.Path.{_∙_}
 use denote.Ref.{now}
 use lib.ListN.{length}
 use borrow.Author.Needs.{needs}
 use Rattle.wire.specs.OutputLaws.{wrote-then, wrote-length}
-use Rattle.messages_write.specs.MessageWriteLaws.{ids-parts, length-parts, count-stored}
-use Rattle.messages_write.proofs.put_body.Statement.{statement}
-use Rattle.messages_write.proofs.put_body.Tie as tie
+use Rattle.inventory_write.specs.InventoryWriteLaws.{ids-parts, length-parts, count-stored}
+use Rattle.inventory_write.proofs.put_body.Statement.{statement}
+use Rattle.inventory_write.proofs.put_body.Tie as tie
 
 slice-write-out : tie.Need-slice-write-out
 slice-write-out c = let a = c .before .before .before .args in omega (arith, length-parts (a .kind) (now (a .ids)) (now (a .buffer)))

@@ -1,4 +1,4 @@
--- `messages_write::put_rows` meets its contract: the rows before i were stored.
+-- `inventory_write::put_rows` meets its contract: the rows before i were stored.
 use Prim.Native.Nat.{_+_, _-_}
 use native.Mathlib.Omega.{arith}
 use denote.Ref.{now}
@@ -6,9 +6,9 @@ use lib.ListN.{length}
 use borrow.Author.Needs.{needs}
 use Rattle.handshake.specs.PuttingLaws.{putting-start, putting-end}
 use Rattle.messages.specs.Writes.{idsOf}
-use Rattle.messages_write.proofs.IdsLoop.{PuttingIds, id-inside, id-room, id-stored}
-use Rattle.messages_write.proofs.put_rows.Statement.{statement}
-use Rattle.messages_write.proofs.put_rows.Tie as tie
+use Rattle.inventory_write.proofs.IdsLoop.{PuttingIds, id-inside, id-room, id-stored}
+use Rattle.inventory_write.proofs.put_rows.Statement.{statement}
+use Rattle.inventory_write.proofs.put_rows.Tie as tie
 
 abbrev Inv-loop : tie.InvT-loop
 Inv-loop out₀ at ids buffer o₀ i₀ out o i = PuttingIds out₀ at ids buffer out o i

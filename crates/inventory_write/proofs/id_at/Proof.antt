@@ -1,4 +1,4 @@
--- `messages_write::id_at` meets its contract: i bytes are copied, and zero bytes follow.
+-- `inventory_write::id_at` meets its contract: i bytes are copied, and zero bytes follow.
 use mathlib.Core.Path.{_≡_, refl, sym, ap, _∙_}
 use mathlib.Core.List.{List}
 use Prim.Native.Nat.{ℕ, _+_, _≤_, _<_, _-_}
@@ -6,8 +6,8 @@ use native.Mathlib.Omega.{arith}
 use lib.ListN.{length, getD, take, drop, set, length-drop}
 use lib.Seq.{getD-drop}
 use Rattle.blake2b.specs.FilledLaws.{filled, filled-more, filled-all}
-use Rattle.messages_write.proofs.id_at.Statement.{statement}
-use Rattle.messages_write.proofs.id_at.Tie as tie
+use Rattle.inventory_write.proofs.id_at.Statement.{statement}
+use Rattle.inventory_write.proofs.id_at.Tie as tie
 
 abbrev Inv-loop : tie.InvT-loop
 Inv-loop s at b₀ i₀ b i = (i ≤ 32) × (b ≡ filled 32 (drop at s) i)

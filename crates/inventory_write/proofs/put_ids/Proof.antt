@@ -1,4 +1,4 @@
--- `messages_write::put_ids` meets its contract: the body was stored where it stands in the frame, and the frame was closed around it.
+-- `inventory_write::put_ids` meets its contract: the body was stored where it stands in the frame, and the frame was closed around it.
 use Prim.Native.Nat.{_+_, _-_}
 use native.Mathlib.Omega.{arith}
 use mathlib.Core.Path.{_≡_}
@@ -8,9 +8,9 @@ use borrow.Author.Needs.{needs}
 use Rattle.frame_write.specs.FrameWriteLaws.{frameLength-body, closed}
 use Rattle.messages.specs.Value.{idsBytes}
 use Rattle.messages.specs.Writes.{idsOf}
-use Rattle.messages_write.specs.MessageWriteLaws.{length-parts}
-use Rattle.messages_write.proofs.put_ids.Statement.{statement}
-use Rattle.messages_write.proofs.put_ids.Tie as tie
+use Rattle.inventory_write.specs.InventoryWriteLaws.{length-parts}
+use Rattle.inventory_write.proofs.put_ids.Statement.{statement}
+use Rattle.inventory_write.proofs.put_ids.Tie as tie
 
 put-body-requires : tie.Need-put-body-requires
 put-body-requires c κs =

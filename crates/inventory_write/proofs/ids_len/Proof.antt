@@ -1,9 +1,9 @@
--- `messages_write::ids_len` meets its contract: it is the sum as it stands.
+-- `inventory_write::ids_len` meets its contract: it is the sum as it stands.
 use native.Mathlib.Omega.{arith}
 use borrow.Author.Needs.{needs}
 use Rattle.vlq.specs.VlqLaws.{vlq-ten}
-use Rattle.messages_write.proofs.ids_len.Statement.{statement}
-use Rattle.messages_write.proofs.ids_len.Tie as tie
+use Rattle.inventory_write.proofs.ids_len.Statement.{statement}
+use Rattle.inventory_write.proofs.ids_len.Tie as tie
 
 add-result : tie.Need-add-result
 add-result c = omega (arith, c .vlq-len .ensures, vlq-ten (c .before .args .count) (omega arith))
