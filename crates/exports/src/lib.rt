@@ -236,7 +236,7 @@ fn network_of(mainnet: u8) -> Network
 pub extern "C" fn haspeljo_blake2b256(s: &[u8], r: &mut [u8; 32])
     ensures { λ n. ⌜ now (r .exit) ≡ blake2b256 (now (s .entry)) ⌝ }
 {
-    *r = blake2b::digest(s);
+    *r = blake2b_hash::digest(s);
 }
 
 // The first four bytes of the digest.
@@ -244,5 +244,5 @@ pub extern "C" fn haspeljo_blake2b256(s: &[u8], r: &mut [u8; 32])
 pub extern "C" fn haspeljo_frame_check(s: &[u8], r: &mut [u8; 4])
     ensures { λ n. ⌜ now (r .exit) ≡ check (now (s .entry)) ⌝ }
 {
-    *r = blake2b::check(s);
+    *r = blake2b_hash::check(s);
 }
