@@ -1,7 +1,7 @@
 // RFC 7693's Appendix A, and digests of the bytes 0, 1, .. 255, 0, .. at several lengths, one to a line.
 ghost use Prim.Native.Nat.{_+_, _≤_};
 ghost use lib.ListN.{length};
-use blake2b::Hash;
+use blake2b_hash::Hash;
 use libc::STDOUT_FILENO;
 
 fn main() {
@@ -39,7 +39,7 @@ fn abc() -> [u64; 8] {
     h[0] = h[0] ^ 0x20 ^ 0x40;
     let mut m = [0u64; 16];
     m[0] = 0x63_6261;
-    blake2b::compress(h, &m, 3, 0, true)
+    blake2b_compress::compress(h, &m, 3, 0, true)
 }
 
 fn digest_line(s: [u8; 1000], n: usize)
@@ -47,7 +47,7 @@ fn digest_line(s: [u8; 1000], n: usize)
 {
     io::print_decimal(STDOUT_FILENO, n as u64);
     io::write_all(STDOUT_FILENO, b" ");
-    let d = blake2b::digest(&s[..n]);
+    let d = blake2b_hash::digest(&s[..n]);
     print_bytes(&d);
     io::write_all(STDOUT_FILENO, b"\n");
 }

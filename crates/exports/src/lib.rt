@@ -227,7 +227,7 @@ pub extern "C" fn haspeljo_is_bogus_v6(high: u64, low: u64, port: u16, mainnet: 
 pub extern "C" fn haspeljo_blake2b256(s: &[u8], r: &mut [u8; 32])
     ensures { λ n. ⌜ now (r .exit) ≡ blake2b256 (now (s .entry)) ⌝ }
 {
-    *r = blake2b::digest(s);
+    *r = blake2b_hash::digest(s);
 }
 
 // The first four bytes of the digest.
@@ -235,5 +235,5 @@ pub extern "C" fn haspeljo_blake2b256(s: &[u8], r: &mut [u8; 32])
 pub extern "C" fn haspeljo_frame_check(s: &[u8], r: &mut [u8; 4])
     ensures { λ n. ⌜ now (r .exit) ≡ check (now (s .entry)) ⌝ }
 {
-    *r = blake2b::check(s);
+    *r = blake2b_hash::check(s);
 }

@@ -158,7 +158,7 @@ pub extern "C" fn haspeljo_write_modifier_request(
     ensures { λ n. ⌜ now (r .exit) ≡ endAfter (messageWritten (networkOf mainnet) 0 (writeModifierRequest kind (now (ids .entry)) (now (buffer .entry))) (now (out .entry)) at) (now (r .entry)) ⌝ }
     ensures { λ n. ⌜ now (out .exit) ≡ outputAfter (messageWritten (networkOf mainnet) 0 (writeModifierRequest kind (now (ids .entry)) (now (buffer .entry))) (now (out .entry)) at) (now (out .entry)) at (messageBytes (networkOf mainnet) (valueOf (writeModifierRequest kind (now (ids .entry)) (now (buffer .entry))))) ⌝ }
 {
-    match messages_write::write_modifier_request(
+    match inventory_write::write_modifier_request(
         out,
         at,
         crate::network_of(mainnet),
@@ -220,7 +220,7 @@ pub extern "C" fn haspeljo_write_inv(
     ensures { λ n. ⌜ now (r .exit) ≡ endAfter (messageWritten (networkOf mainnet) 0 (writeInv kind (now (ids .entry)) (now (buffer .entry))) (now (out .entry)) at) (now (r .entry)) ⌝ }
     ensures { λ n. ⌜ now (out .exit) ≡ outputAfter (messageWritten (networkOf mainnet) 0 (writeInv kind (now (ids .entry)) (now (buffer .entry))) (now (out .entry)) at) (now (out .entry)) at (messageBytes (networkOf mainnet) (valueOf (writeInv kind (now (ids .entry)) (now (buffer .entry))))) ⌝ }
 {
-    match messages_write::write_inv(out, at, crate::network_of(mainnet), kind, ids, buffer) {
+    match inventory_write::write_inv(out, at, crate::network_of(mainnet), kind, ids, buffer) {
         Written::To(end) => {
             *r = [end as u64];
             0

@@ -80,7 +80,7 @@ fn read_body(s: &[u8], at: usize, n: usize) -> BodyRead
     }
     let start = at + CHECK_SIZE;
     let end = start + n;
-    let check = blake2b::check(&s[start..end]);
+    let check = blake2b_hash::check(&s[start..end]);
     if !wire::stands_at(s, at, check) {
         return BodyRead::Refused(9);
     }

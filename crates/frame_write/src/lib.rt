@@ -91,7 +91,7 @@ fn put_frame(out: &mut [u8], at: usize, network: Network, code: u8, n: usize) ->
         return put_head(out, at, network, code, n);
     }
     let start = at + BODY_START;
-    let check = blake2b::check(&out[start..start + n]);
+    let check = blake2b_hash::check(&out[start..start + n]);
     let end = put_head(out, at, network, code, n);
     put_four(out, end, check) + n
 }

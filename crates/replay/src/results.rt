@@ -11,8 +11,8 @@ pub(crate) fn answer(function: u8, s: &[u8], line: &mut Line, at: usize) -> usiz
         9 | 11 => line::number(line, at, encoded(function, number(s, 0))),
         10 | 12 => line::signed(line, at, decoded(function, number(s, 0))),
         13..=15 => line::flag(line, at, test(function, s)),
-        16 => line::bytes(line, at, &blake2b::digest(s)),
-        _ => line::bytes(line, at, &blake2b::check(s)),
+        16 => line::bytes(line, at, &blake2b_hash::digest(s)),
+        _ => line::bytes(line, at, &blake2b_hash::check(s)),
     }
 }
 

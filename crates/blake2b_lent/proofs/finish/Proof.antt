@@ -42,18 +42,18 @@ use denote.Triple.Statement.{Contract, Triple}
 use denote.Triple.Table.{entered, cited}
 use denote.Triple.Walked.{says, Stays, stay-ref, stay-none-slice, walkOf, goes-none-slice, goes-ref, Walks, ends-at, walked, walk-meets}
 use denote.Exit.{yes}
-use Rattle.blake2b.specs.Running.{started, finished}
-use Rattle.blake2b.specs.declared.Hash.{Hash}
-use Rattle.blake2b.proofs.Hash as T
-use Rattle.blake2b.proofs.Hash.Laws as T′
-use Rattle.blake2b.proofs.Hash.finish as finish
-use Rattle.blake2b.proofs.Hash.finish.Symbol as finish-def
-use Rattle.blake2b.proofs.Hash.finish.Symbol.{name as #blake2b·Hash·finish}
-use Rattle.blake2b.proofs.Hash.finish.Met as finish-thm
-use Rattle.blake2b.proofs.Hash.start as start
-use Rattle.blake2b.proofs.Hash.start.Symbol as start-def
-use Rattle.blake2b.proofs.Hash.start.Symbol.{name as #blake2b·Hash·start}
-use Rattle.blake2b.proofs.Hash.start.Met as start-thm
+use Rattle.blake2b_hash.specs.Running.{started, finished}
+use Rattle.blake2b_hash.specs.declared.Hash.{Hash}
+use Rattle.blake2b_hash.proofs.Hash as T
+use Rattle.blake2b_hash.proofs.Hash.Laws as T′
+use Rattle.blake2b_hash.proofs.Hash.finish as finish
+use Rattle.blake2b_hash.proofs.Hash.finish.Symbol as finish-def
+use Rattle.blake2b_hash.proofs.Hash.finish.Symbol.{name as #blake2b-hash·Hash·finish}
+use Rattle.blake2b_hash.proofs.Hash.finish.Met as finish-thm
+use Rattle.blake2b_hash.proofs.Hash.start as start
+use Rattle.blake2b_hash.proofs.Hash.start.Symbol as start-def
+use Rattle.blake2b_hash.proofs.Hash.start.Symbol.{name as #blake2b-hash·Hash·start}
+use Rattle.blake2b_hash.proofs.Hash.start.Met as start-thm
 use Rattle.blake2b_lent.proofs.finish.Key.{name as #blake2b-lent·finish}
 use Rattle.blake2b_lent.proofs.finish as lent
 use Rattle.blake2b_lent.proofs.finish.Statement as stated
@@ -131,7 +131,7 @@ module _ {M : Type 1} (𝓤 : URA M) (H : Heap 𝓤) (A : Atoms 𝓤) (W : Given
       move ! (2 ∷ 4 ∷ []) $ join ! $ frame ! $ feqI ! (List Val) (vptr b o ∷ []) (vptr b o ∷ []) refl $ fjoin3 ! $ nothing ! $
       move ! (3 ∷ 0 ∷ []) $ fjoin ! $ move ! (1 ∷ 0 ∷ []) $ fjoin ! $ done !
 
-  module _ (C : Calls 𝓤 H) (Λ : Loops 𝓤 H) (fm : FmC 𝓤 H (W .laws) C) (known-finish : Triple 𝓤 (C #blake2b·Hash·finish) (Finish 𝓤 H A at-mem run)) (known-start : Triple 𝓤 (C #blake2b·Hash·start) (Start 𝓤 H A at-mem run)) where
+  module _ (C : Calls 𝓤 H) (Λ : Loops 𝓤 H) (fm : FmC 𝓤 H (W .laws) C) (known-finish : Triple 𝓤 (C #blake2b-hash·Hash·finish) (Finish 𝓤 H A at-mem run)) (known-start : Triple 𝓤 (C #blake2b-hash·Hash·start) (Start 𝓤 H A at-mem run)) where
     walk : Is (ShrSlice (named 1) κ′ u8) s (v ∷ []) → ent 𝓤 (onEntry 𝓤 H A lent.signature (κ, (κ′, tt)) (q, (q′, tt)) x at) (WpFn 𝓤 H C Λ code.function (vptr b o ∷ v ∷ []) Post)
     walk p =
         qed W ((‵ (flft κ q) ⊛ ‵ (flft κ′ q′) ⊛ ‵ ftrue) ∷ ‵ (owns (MutRef (named 0) κ R ∷ ShrSlice (named 1) κ′ u8 ∷ []) x at) ∷ []) ∵ enter ! C Λ code.function (vptr b o ∷ v ∷ []) _ $
@@ -168,7 +168,7 @@ module _ {M : Type 1} (𝓤 : URA M) (H : Heap 𝓤) (A : Atoms 𝓤) (W : Given
         keep ! (0 ∷ 1 ∷ 2 ∷ 3 ∷ 4 ∷ 5 ∷ []) $ by ! (exits r u h e e′))))))))))))))))
 
 module _ {M : Type 1} (𝓤 : URA M) (H : Heap 𝓤) (A : Atoms 𝓤) (W : Given 𝓤 H A) (mem : Memory → SProp 𝓤) (run : Routine → Fun 𝓤) where
-  finish-walks : (C : Calls 𝓤 H) (Λ : Loops 𝓤 H) → FmC 𝓤 H (W .laws) C → Triple 𝓤 (C #blake2b·Hash·finish) (Finish 𝓤 H A mem run) → Triple 𝓤 (C #blake2b·Hash·start) (Start 𝓤 H A mem run)
+  finish-walks : (C : Calls 𝓤 H) (Λ : Loops 𝓤 H) → FmC 𝓤 H (W .laws) C → Triple 𝓤 (C #blake2b-hash·Hash·finish) (Finish 𝓤 H A mem run) → Triple 𝓤 (C #blake2b-hash·Hash·start) (Start 𝓤 H A mem run)
       → Walks 𝓤 H A lent.ended stayed (WpFn 𝓤 H C Λ code.function) (lent.clauses 𝓤 H A mem run)
   finish-walks C Λ fm known-finish known-start =
       walked 𝓤 H A lent.ended stayed (lent.clauses 𝓤 H A mem run) (WpFn 𝓤 H C Λ code.function) (λ κs. (ptr-vals, (slice-vals, tt)))
@@ -177,7 +177,7 @@ module _ {M : Type 1} (𝓤 : URA M) (H : Heap 𝓤) (A : Atoms 𝓤) (W : Given
       (walk 𝓤 H A W mem run (κs .0) (κs .1 .0) (qs .0) (qs .1 .0) bounds (a .0 .ptr .0) (a .0 .ptr .1) (a .0 .name) (a .0 .now) (a .1 .0) C Λ fm known-finish known-start (are .1 .0)))
 
 finish-meets : {M : Type 1} (𝓤 : URA M) (H : Heap 𝓤) (A : Atoms 𝓤) → Given 𝓤 H A → (mem : Memory → SProp 𝓤) (run : Routine → Fun 𝓤) (𝓣 : Tables 𝓤 H)
-    → Triple 𝓤 (𝓣 .C #blake2b·Hash·finish) (Finish 𝓤 H A mem run) → Triple 𝓤 (𝓣 .C #blake2b·Hash·start) (Start 𝓤 H A mem run)
+    → Triple 𝓤 (𝓣 .C #blake2b-hash·Hash·finish) (Finish 𝓤 H A mem run) → Triple 𝓤 (𝓣 .C #blake2b-hash·Hash·start) (Start 𝓤 H A mem run)
     → Meets 𝓤 H A lent.signature (WpFn 𝓤 H (𝓣 .C) (𝓣 .Λ) code.function) (lent.spec 𝓤 H A mem run)
 finish-meets 𝓤 H A W mem run 𝓣 known-finish known-start =
     walk-meets 𝓤 H A lent.ended stayed W (goes-ref 𝓤 H A W 2 0 tt (plain (λ _. R)), (goes-none-slice 𝓤 H A W 2 (1 ∷ []) tt (plain (λ _. u8)) yes, tt))
@@ -189,5 +189,5 @@ finish-spec 𝓤 H 𝓜 𝓖 𝓡 =
     entered 𝓤 H (tripleOf 𝓤 H (𝓖 .A) lent.signature (lent.spec 𝓤 H (𝓖 .A) (𝓜 .mem) (𝓡 .run)))
     (tables 𝓤 H 𝓜 𝓡 code.env .C) (tables 𝓤 H 𝓜 𝓡 code.env .Λ) #blake2b-lent·finish code.function (code.unfolded 𝓤 H 𝓜 𝓡)
     (finish-meets 𝓤 H (𝓖 .A) (givenOf 𝓤 H 𝓜 𝓖) (𝓜 .mem) (𝓡 .run) (tablesOf 𝓤 H 𝓜 (tables 𝓤 H 𝓜 𝓡 code.env))
-    (cited 𝓤 H (Finish 𝓤 H (𝓖 .A) (𝓜 .mem) (𝓡 .run)) 𝓜 𝓡 code.env #blake2b·Hash·finish finish-def.routine code.calls-blake2b·Hash·finish (finish-thm.met 𝓤 H 𝓜 𝓖 𝓡))
-    (cited 𝓤 H (Start 𝓤 H (𝓖 .A) (𝓜 .mem) (𝓡 .run)) 𝓜 𝓡 code.env #blake2b·Hash·start start-def.routine code.calls-blake2b·Hash·start (start-thm.met 𝓤 H 𝓜 𝓖 𝓡)))
+    (cited 𝓤 H (Finish 𝓤 H (𝓖 .A) (𝓜 .mem) (𝓡 .run)) 𝓜 𝓡 code.env #blake2b-hash·Hash·finish finish-def.routine code.calls-blake2b-hash·Hash·finish (finish-thm.met 𝓤 H 𝓜 𝓖 𝓡))
+    (cited 𝓤 H (Start 𝓤 H (𝓖 .A) (𝓜 .mem) (𝓡 .run)) 𝓜 𝓡 code.env #blake2b-hash·Hash·start start-def.routine code.calls-blake2b-hash·Hash·start (start-thm.met 𝓤 H 𝓜 𝓖 𝓡)))

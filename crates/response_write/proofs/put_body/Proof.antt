@@ -6,7 +6,7 @@ use denote.Ref.{now}
 use lib.ListN.{length}
 use borrow.Author.Needs.{needs}
 use Rattle.wire.specs.OutputLaws.{wrote-then, wrote-length}
-use Rattle.messages_write.specs.MessageWriteLaws.{count-stored}
+use Rattle.inventory_write.specs.InventoryWriteLaws.{count-stored}
 use Rattle.response_write.specs.ResponseLaws.{response-parts, length-parts}
 use Rattle.response_write.proofs.put_body.Statement.{statement}
 use Rattle.response_write.proofs.put_body.Tie as tie

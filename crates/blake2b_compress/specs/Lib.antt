@@ -1,0 +1,2 @@
+-- The parts of F that single functions compute.
+pub mod Parts

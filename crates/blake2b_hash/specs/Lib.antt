@@ -1,0 +1,3 @@
+-- The running hash: its definitions and laws.
+pub mod Running
+pub mod RunningLaws
