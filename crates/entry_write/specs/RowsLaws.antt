@@ -16,7 +16,7 @@ use Rattle.wire.specs.Output.{ask, asked, outputAfter}
 use Rattle.wire.specs.OutputLaws.{Wrote}
 use Rattle.vlq.specs.Vlq.{limit}
 use Rattle.output_ask.specs.Asked.{writtenFor, placed}
-use Rattle.vlq_write.specs.CheckedLaws.{accepted, stored, kept}
+use Rattle.output_ask.specs.CheckedLaws.{accepted, stored, kept}
 use Rattle.handshake.specs.Value.{entryBytes, shortStrings, utf8Strings, fewFeatures, lengthsWithin, entriesAsked}
 use Rattle.handshake.specs.Tables.{Lent, lent, entryRow, entryRows, entriesOf, tablesWhole, entryInside}
 use Rattle.entry_ask.specs.Asked.{entriesSaid}

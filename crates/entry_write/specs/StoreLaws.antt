@@ -1,4 +1,4 @@
--- What a row's numbers say, its strings and its address, and stores one after the other.
+-- What a row's numbers say, its strings and its address.
 use Prim.Native.Nat.{ℕ, zero, suc, _+_, _-_, _≤_, _<_}
 use native.Mathlib.Omega.{arith}
 use mathlib.Core.Bool.{true, _||_}
@@ -6,12 +6,10 @@ use mathlib.Core.List.{List, [], _∷_, _++_}
 use mathlib.Core.Logic.{⊎-elim}
 use mathlib.Core.Path.{_≡_, refl, sym, ap}
 use lib.Dec.{eqb, leb}
-use lib.ListN.{length, getD, drop, set, length-append}
+use lib.ListN.{length, getD, drop, length-append}
 use borrow.Author.Tests.{ltb-true, lt-ltb, leb-true, ne-eqb}
 use Rattle.wire.specs.Bytes.{every}
 use Rattle.wire.specs.BytesLaws.{and-true, isByte, every-take, every-drop}
-use Rattle.wire.specs.Output.{put}
-use Rattle.wire.specs.OutputLaws.{Wrote}
 use Rattle.handshake.specs.declared.EntryRow.{EntryRow}
 use Rattle.handshake.specs.declared.FeatureRow.{FeatureRow}
 use Rattle.handshake.specs.Entry.{addressOf}
@@ -64,20 +62,3 @@ module _ (buffer : List ℕ) (r : EntryRow) (are : every isByte buffer ≡ true)
 
     pub kind-byte : r .addrlen < 256
     kind-byte = ⊎-elim (λ (e : r .addrlen ≡ 8). omega (arith, e)) (λ (e : r .addrlen ≡ 20). omega (arith, e)) (numbers-of r numbers .kind some)
-
--- ---- stores of bytes beside each other
-
-pub wrote-two : (out : List ℕ) (at a b : ℕ) → Wrote out at (a ∷ b ∷ []) (at + 2) (set (set out at a) (at + 1) b)
-unfolding put
-wrote-two out at a b = record { end = refl; bytes = refl }
-
-pub wrote-three : (out : List ℕ) (at a b c : ℕ) → Wrote out at (a ∷ b ∷ c ∷ []) (at + 3) (set (set (set out at a) (at + 1) b) (at + 2) c)
-unfolding put
-wrote-three out at a b c = let e : at + 1 + 1 ≡ at + 2 = omega arith in record { end = refl; bytes = rw e }
-
-pub wrote-four : (out : List ℕ) (at a b c d : ℕ) → Wrote out at (a ∷ b ∷ c ∷ d ∷ []) (at + 4) (set (set (set (set out at a) (at + 1) b) (at + 2) c) (at + 3) d)
-unfolding put
-wrote-four out at a b c d =
-    let e : at + 1 + 1 ≡ at + 2 = omega arith in
-    let f : at + 2 + 1 ≡ at + 3 = omega arith in
-    record { end = refl; bytes = rw (e, f) }

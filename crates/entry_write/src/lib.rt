@@ -29,7 +29,7 @@ use entry_whole::tables_whole;
 use handshake::EntryRow;
 use handshake::FeatureRow;
 use output_ask::ask_place;
-use vlq_write::write_part;
+use part_write::write_part;
 use vlq_write::write_vlq;
 use wire::Written;
 

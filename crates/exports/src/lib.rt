@@ -153,7 +153,7 @@ pub extern "C" fn haspeljo_write_part(out: &mut [u8], at: usize, s: &[u8], r: &m
     ensures { λ n. ⌜ now (r .exit) ≡ endAfter (written [] [] (now (out .entry)) at (now (s .entry))) (now (r .entry)) ⌝ }
     ensures { λ n. ⌜ now (out .exit) ≡ outputAfter (written [] [] (now (out .entry)) at (now (s .entry))) (now (out .entry)) at (now (s .entry)) ⌝ }
 {
-    match vlq_write::write_part(out, at, s) {
+    match part_write::write_part(out, at, s) {
         Written::To(end) => {
             *r = [end as u64];
             0

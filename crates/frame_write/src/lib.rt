@@ -77,7 +77,7 @@ fn put_body(out: &mut [u8], at: usize, network: Network, code: u8, body: &[u8]) 
     requires { ⌜ at + frameLength (length (now body)) ≤ length (now out) ⌝ }
     ensures { λ r. ⌜ Wrote (now (out .entry)) at (frameBytes network code (now (body .entry))) r (now (out .exit)) ⌝ }
 {
-    vlq_write::write_part(out, at + BODY_START, body);
+    part_write::write_part(out, at + BODY_START, body);
     put_frame(out, at, network, code, body.len())
 }
 

@@ -159,7 +159,7 @@ fn put_rows(out: &mut [u8], at: usize, ids: &[u32], buffer: &[u8]) -> usize
     while i < ids.len() {
         let from = ids[i] as usize;
         let id = id_at(buffer, from);
-        vlq_write::write_part(out, o, &id);
+        part_write::write_part(out, o, &id);
         o += ID_SIZE;
         i += 1;
     }

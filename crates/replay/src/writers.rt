@@ -24,7 +24,7 @@ fn write(function: u8, s: &[u8], out: &mut [u8], place: usize) -> Written {
     match function {
         6 => vlq_write::write_vlq(out, place, input::number(s, 16)),
         7 => vlq_write::write_short_string(out, place, input::bytes_from(s, 16)),
-        _ => vlq_write::write_part(out, place, input::bytes_from(s, 16)),
+        _ => part_write::write_part(out, place, input::bytes_from(s, 16)),
     }
 }
 

@@ -231,6 +231,6 @@ fn put_part(out: &mut [u8], at: usize, from: usize, n: usize, buffer: &[u8]) -> 
     requires { ⌜ at + n ≤ length (now out) ⌝ }
     ensures { λ r. ⌜ Wrote (now (out .entry)) at (bytesAt (now (buffer .entry)) from n) r (now (out .exit)) ⌝ }
 {
-    vlq_write::write_part(out, at, &buffer[from..from + n]);
+    part_write::write_part(out, at, &buffer[from..from + n]);
     at + n
 }

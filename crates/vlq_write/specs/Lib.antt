@@ -1,4 +1,3 @@
 pub mod Asked
-pub mod CheckedLaws
 pub mod WrittenLaws
 pub mod Cases

@@ -77,6 +77,22 @@ pub wrote-byte : (out : List ℕ) (at b : ℕ) → Wrote out at (b ∷ []) (at +
 unfolding put
 wrote-byte out at b = record { end = refl; bytes = refl }
 
+-- bytes beside each other
+pub wrote-two : (out : List ℕ) (at a b : ℕ) → Wrote out at (a ∷ b ∷ []) (at + 2) (set (set out at a) (at + 1) b)
+unfolding put
+wrote-two out at a b = record { end = refl; bytes = refl }
+
+pub wrote-three : (out : List ℕ) (at a b c : ℕ) → Wrote out at (a ∷ b ∷ c ∷ []) (at + 3) (set (set (set out at a) (at + 1) b) (at + 2) c)
+unfolding put
+wrote-three out at a b c = let e : at + 1 + 1 ≡ at + 2 = omega arith in record { end = refl; bytes = rw e }
+
+pub wrote-four : (out : List ℕ) (at a b c d : ℕ) → Wrote out at (a ∷ b ∷ c ∷ d ∷ []) (at + 4) (set (set (set (set out at a) (at + 1) b) (at + 2) c) (at + 3) d)
+unfolding put
+wrote-four out at a b c d =
+    let e : at + 1 + 1 ≡ at + 2 = omega arith in
+    let f : at + 2 + 1 ≡ at + 3 = omega arith in
+    record { end = refl; bytes = rw (e, f) }
+
 pub wrote-none : (out : List ℕ) (at : ℕ) → Wrote out at [] at out
 unfolding put
 wrote-none out at = record { end = sym (add-zero at); bytes = refl }

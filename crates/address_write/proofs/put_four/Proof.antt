@@ -3,7 +3,7 @@ use Prim.Native.Nat.{_/_, _%_}
 use native.Mathlib.Omega.{arith}
 use lib.ListN.{length-set}
 use borrow.Author.Needs.{needs}
-use Rattle.entry_write.specs.StoreLaws.{wrote-four}
+use Rattle.wire.specs.OutputLaws.{wrote-four}
 use Rattle.address_write.specs.AddressLaws.{four-bytes}
 use Rattle.address_write.proofs.put_four.Statement.{statement}
 use Rattle.address_write.proofs.put_four.Tie as tie

@@ -5,9 +5,8 @@ use mathlib.Core.Path.{ap, _∙_}
 use lib.ListN.{length, length-set}
 use borrow.Author.Needs.{needs}
 use Rattle.wire.specs.BytesLaws.{length-bigEndianBytes}
-use Rattle.wire.specs.OutputLaws.{length-put, wrote-then, wrote-length, wrote-checked}
+use Rattle.wire.specs.OutputLaws.{length-put, wrote-then, wrote-length, wrote-checked, wrote-two}
 use Rattle.vlq.specs.Vlq.{vlqBytes}
-use Rattle.entry_write.specs.StoreLaws.{wrote-two}
 use Rattle.address_write.proofs.put_v6.Statement.{statement}
 use Rattle.address_write.proofs.put_v6.Tie as tie
 

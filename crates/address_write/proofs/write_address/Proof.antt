@@ -4,7 +4,7 @@ use mathlib.Core.Path.{refl}
 use denote.Ref.{now}
 use borrow.Author.Needs.{needs}
 use Rattle.wire.specs.Output.{asked}
-use Rattle.vlq_write.specs.CheckedLaws.{accepted, stored, kept}
+use Rattle.output_ask.specs.CheckedLaws.{accepted, stored, kept}
 use Rattle.handshake.specs.Value.{addressBytes}
 use Rattle.output_ask.specs.Asked.{placed}
 use Rattle.address_write.proofs.write_address.Statement.{statement}

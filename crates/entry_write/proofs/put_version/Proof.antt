@@ -3,7 +3,7 @@ use native.Mathlib.Omega.{arith}
 use lib.ListN.{length-set}
 use borrow.Author.Needs.{needs}
 use Rattle.handshake.specs.TablesLaws.{numbers-of}
-use Rattle.entry_write.specs.StoreLaws.{wrote-three}
+use Rattle.wire.specs.OutputLaws.{wrote-three}
 use Rattle.entry_write.proofs.put_version.Statement.{statement}
 use Rattle.entry_write.proofs.put_version.Tie as tie
 

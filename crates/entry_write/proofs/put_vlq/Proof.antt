@@ -2,7 +2,7 @@
 use mathlib.Core.List.{[]}
 use borrow.Author.Needs.{needs}
 use Rattle.wire.specs.OutputLaws.{wrote-to}
-use Rattle.vlq_write.specs.CheckedLaws.{not-refused}
+use Rattle.output_ask.specs.CheckedLaws.{not-refused}
 use Rattle.entry_write.proofs.put_vlq.Statement.{statement}
 use Rattle.entry_write.proofs.put_vlq.Tie as tie
 

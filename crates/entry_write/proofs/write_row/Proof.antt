@@ -7,7 +7,7 @@ use lib.ListN.{length}
 use borrow.Author.Needs.{needs}
 use Rattle.wire.specs.Output.{ask}
 use Rattle.wire.specs.OutputLaws.{wrote-length}
-use Rattle.vlq_write.specs.CheckedLaws.{accepted, stored, kept}
+use Rattle.output_ask.specs.CheckedLaws.{accepted, stored, kept}
 use Rattle.handshake.specs.Value.{entryBytes}
 use Rattle.handshake.specs.Tables.{lent, entryRow}
 use Rattle.handshake.specs.Writes.{entryAt, rowAsked}

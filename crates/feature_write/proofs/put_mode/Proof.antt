@@ -7,11 +7,10 @@ use mir.Facts.{toZ-ofZ}
 use lib.IntN.{ℤ}
 use lib.ListN.{length, length-set}
 use borrow.Author.Needs.{needs}
-use Rattle.wire.specs.OutputLaws.{length-put, wrote-then, wrote-length, wrote-checked}
+use Rattle.wire.specs.OutputLaws.{length-put, wrote-then, wrote-length, wrote-checked, wrote-four}
 use Rattle.vlq.specs.Vlq.{vlqBytes}
 use Rattle.zigzag.specs.Zigzag.{zigzagEncode}
 use Rattle.handshake.specs.Value.{featureBytes}
-use Rattle.entry_write.specs.StoreLaws.{wrote-four}
 use Rattle.feature_write.specs.Features.{modeOf}
 use Rattle.feature_write.specs.FeaturesLaws.{length-mode, mode-parts}
 use Rattle.feature_write.proofs.put_mode.Statement.{statement}

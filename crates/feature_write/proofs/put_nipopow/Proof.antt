@@ -3,9 +3,8 @@ use native.Mathlib.Omega.{arith}
 use mathlib.Core.Path.{ap}
 use lib.ListN.{length, length-set}
 use borrow.Author.Needs.{needs}
-use Rattle.wire.specs.OutputLaws.{wrote-byte}
+use Rattle.wire.specs.OutputLaws.{wrote-byte, wrote-two}
 use Rattle.handshake.specs.Writes.{nipopow}
-use Rattle.entry_write.specs.StoreLaws.{wrote-two}
 use Rattle.feature_write.proofs.put_nipopow.Statement.{statement}
 use Rattle.feature_write.proofs.put_nipopow.Tie as tie
 

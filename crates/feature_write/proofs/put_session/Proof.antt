@@ -7,12 +7,11 @@ use mir.Facts.{toZ-ofZ}
 use lib.IntN.{ℤ}
 use lib.ListN.{length, length-set}
 use borrow.Author.Needs.{needs}
-use Rattle.wire.specs.OutputLaws.{length-put, wrote-then, wrote-length, wrote-checked}
+use Rattle.wire.specs.OutputLaws.{length-put, wrote-then, wrote-length, wrote-checked, wrote-two}
 use Rattle.vlq.specs.Vlq.{vlqBytes}
 use Rattle.zigzag.specs.Zigzag.{zigzagEncode}
 use Rattle.types.specs.Magic.{magicOf}
 use Rattle.handshake.specs.Value.{featureBytes}
-use Rattle.entry_write.specs.StoreLaws.{wrote-two}
 use Rattle.feature_write.specs.Features.{sessionOf}
 use Rattle.feature_write.specs.FeaturesLaws.{length-magic, length-session, session-parts}
 use Rattle.feature_write.proofs.put_session.Statement.{statement}

@@ -10,7 +10,7 @@ use borrow.Author.Needs.{needs}
 use borrow.Author.Tests.{leb-true, leb-false, not-true, not-false}
 use Rattle.wire.specs.Output.{ask}
 use Rattle.vlq.specs.Vlq.{vlqBytes}
-use Rattle.vlq_write.specs.CheckedLaws.{said}
+use Rattle.output_ask.specs.CheckedLaws.{said}
 use Rattle.handshake.specs.Value.{entryBytes, handshakeBytes}
 use Rattle.handshake.specs.Tables.{lent, tablesWhole}
 use Rattle.handshake.specs.Writes.{entryAt, rowAsked, handshakeAt, entryWritten, handshakeWritten}

@@ -1,4 +1,4 @@
--- `vlq_write::eight_at` meets its contract: the first i bytes of the block are those from the place on.
+-- `part_write::eight_at` meets its contract: the first i bytes of the block are those from the place on.
 use Prim.Native.Nat.{ℕ, suc, _+_, _-_, _≤_, _<_}
 use native.Mathlib.Omega.{arith}
 use native.Mathlib.Numerals.{add-one}
@@ -6,8 +6,8 @@ use mathlib.Core.List.{List, [], _∷_, _++_}
 use mathlib.Core.Path.{_≡_, refl, sym, ap, _∙_}
 use lib.ListN.{length, getD, take, drop, set, length-set, length-drop}
 use lib.Seq.{take-suc, take-suc-set, take-all, getD-drop}
-use Rattle.vlq_write.proofs.eight_at.Statement.{statement}
-use Rattle.vlq_write.proofs.eight_at.Tie as tie
+use Rattle.part_write.proofs.eight_at.Statement.{statement}
+use Rattle.part_write.proofs.eight_at.Tie as tie
 
 abbrev Inv-loop : tie.InvT-loop
 Inv-loop s at b₀ i₀ b i = (i ≤ 8) × (length b ≡ 8) × (take i b ≡ take i (drop at s))

@@ -1,10 +1,10 @@
--- `vlq_write::write_part` meets its contract: the questions were answered by sizes, and the part was stored once there was room.
+-- `part_write::write_part` meets its contract: the questions were answered by sizes, and the part was stored once there was room.
 use mathlib.Core.List.{[]}
 use denote.Ref.{now}
 use borrow.Author.Needs.{needs}
-use Rattle.vlq_write.specs.CheckedLaws.{accepted, stored, kept}
-use Rattle.vlq_write.proofs.write_part.Statement.{statement}
-use Rattle.vlq_write.proofs.write_part.Tie as tie
+use Rattle.output_ask.specs.CheckedLaws.{accepted, stored, kept}
+use Rattle.part_write.proofs.write_part.Statement.{statement}
+use Rattle.part_write.proofs.write_part.Tie as tie
 
 put-part-requires : tie.Need-put-part-requires
 put-part-requires c κs =

@@ -1,4 +1,4 @@
--- `vlq_write::put_bytes` meets its contract. The loop has written the first i bytes of s; the rest of s is still to be written.
+-- `part_write::put_bytes` meets its contract. The loop has written the first i bytes of s; the rest of s is still to be written.
 use Prim.Native.Nat.{ℕ, _+_, _-_, _≤_, _<_}
 use native.Mathlib.Omega.{arith}
 use native.Mathlib.Numerals.{add-one}
@@ -7,8 +7,8 @@ use mathlib.Core.Path.{_≡_}
 use lib.ListN.{length, getD, drop, length-drop, drop-of-length-le}
 use lib.Seq.{drop-cons}
 use Rattle.wire.specs.OutputLaws.{Writing, writing-start, writing-turn, writing-end, writing-room, wrote-byte}
-use Rattle.vlq_write.proofs.put_bytes.Statement.{statement}
-use Rattle.vlq_write.proofs.put_bytes.Tie as tie
+use Rattle.part_write.proofs.put_bytes.Statement.{statement}
+use Rattle.part_write.proofs.put_bytes.Tie as tie
 
 -- what is left begins with the byte at i
 next : (s : List ℕ) (i : ℕ) → i < length s → drop i s ≡ (getD s i 0 ∷ []) ++ drop (i + 1) s

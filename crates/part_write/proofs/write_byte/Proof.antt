@@ -1,12 +1,12 @@
--- `vlq_write::write_byte` meets its contract: the questions were answered by sizes, and the byte was stored once there was room.
+-- `part_write::write_byte` meets its contract: the questions were answered by sizes, and the byte was stored once there was room.
 use native.Mathlib.Omega.{arith}
 use mathlib.Core.List.{[], _∷_}
 use denote.Ref.{now}
 use borrow.Author.Needs.{needs}
 use Rattle.wire.specs.OutputLaws.{wrote-byte}
-use Rattle.vlq_write.specs.CheckedLaws.{accepted, stored, kept}
-use Rattle.vlq_write.proofs.write_byte.Statement.{statement}
-use Rattle.vlq_write.proofs.write_byte.Tie as tie
+use Rattle.output_ask.specs.CheckedLaws.{accepted, stored, kept}
+use Rattle.part_write.proofs.write_byte.Statement.{statement}
+use Rattle.part_write.proofs.write_byte.Tie as tie
 
 slice-write-out : tie.Need-slice-write-out
 slice-write-out c =

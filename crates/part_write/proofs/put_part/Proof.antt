@@ -1,4 +1,4 @@
--- `vlq_write::put_part` meets its contract: the last eight bytes are stored over what the blocks before left of them.
+-- `part_write::put_part` meets its contract: the last eight bytes are stored over what the blocks before left of them.
 use Prim.Native.Nat.{ℕ, _+_, _-_, _≤_}
 use native.Mathlib.Omega.{arith}
 use mathlib.Core.List.{List}
@@ -9,8 +9,8 @@ use lib.ListN.{length, take, drop, length-drop}
 use lib.Seq.{take-all}
 use Rattle.wire.specs.OutputLaws.{Wrote}
 use Rattle.wire.specs.StandingLaws.{wrote-over}
-use Rattle.vlq_write.proofs.put_part.Statement.{statement}
-use Rattle.vlq_write.proofs.put_part.Tie as tie
+use Rattle.part_write.proofs.put_part.Statement.{statement}
+use Rattle.part_write.proofs.put_part.Tie as tie
 
 last-eight : {out : List ℕ} {at m : ℕ} {mid b : List ℕ} {e : ℕ} {last : List ℕ} (s : List ℕ) (i : ℕ) → 8 ≤ length s → length s ≤ i + 8 → i ≤ length s
     → at + length s ≤ length out → Wrote out at (take i s) m mid → b ≡ take 8 (drop (length s - 8) s) → Wrote mid (at + (length s - 8)) b e last → Wrote out at s e last

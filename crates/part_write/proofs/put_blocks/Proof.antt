@@ -1,4 +1,4 @@
--- `vlq_write::put_blocks` meets its contract: before each turn the first i bytes of s were stored.
+-- `part_write::put_blocks` meets its contract: before each turn the first i bytes of s were stored.
 use Prim.Native.Nat.{ℕ, _+_, _-_, _≤_}
 use native.Mathlib.Nat.{add-zero}
 use native.Mathlib.Omega.{arith}
@@ -11,8 +11,8 @@ use lib.Seq.{take-add, length-take-le}
 use Rattle.wire.specs.Output.{put}
 use Rattle.wire.specs.OutputLaws.{Wrote, wrote-none, wrote-then, wrote-length}
 use Rattle.wire.specs.ReaderLaws.{length-part}
-use Rattle.vlq_write.proofs.put_blocks.Statement.{statement}
-use Rattle.vlq_write.proofs.put_blocks.Tie as tie
+use Rattle.part_write.proofs.put_blocks.Statement.{statement}
+use Rattle.part_write.proofs.put_blocks.Tie as tie
 
 -- a block more
 next : {out : List ℕ} {at : ℕ} {mid : List ℕ} {b : List ℕ} {e : ℕ} {last : List ℕ} (s : List ℕ) (i : ℕ) → i + 8 ≤ length s → b ≡ take 8 (drop i s)
