@@ -1,3 +1,1 @@
-pub mod NumberLoop
-pub mod AddressLaws
 pub mod IndexLaws

@@ -5,7 +5,6 @@ use lib.ListN.{length}
 use Rattle.wire.specs.Reader.{Answer, got, refused, Segment, partOf}
 use Rattle.wire.specs.declared.Part.{Part}
 use Rattle.types.specs.declared.Version.{Version}
-use Rattle.types.specs.declared.Address.{Address}
 use Rattle.handshake.specs.Entry.{EntryFeature, Entry, EntryHandshake}
 use Rattle.handshake_read.specs.Parts.{EntryHead, EntryFeatures}
 use Rattle.handshake_read.specs.declared.Head.{Head}
@@ -15,8 +14,6 @@ use Rattle.handshake_read.specs.declared.PeerSpec.{PeerSpec}
 use Rattle.handshake_read.specs.declared.Handshake.{Handshake}
 use Rattle.handshake_read.specs.declared.VersionRead.{VersionRead}
 use Rattle.handshake_read.specs.declared.VersionRead.the-variants as VersionReads
-use Rattle.handshake_read.specs.declared.AddressRead.{AddressRead}
-use Rattle.handshake_read.specs.declared.AddressRead.the-variants as AddressReads
 use Rattle.handshake_read.specs.declared.HeadRead.{HeadRead}
 use Rattle.handshake_read.specs.declared.HeadRead.the-variants as HeadReads
 use Rattle.handshake_read.specs.declared.FeatureRead.{FeatureRead}
@@ -65,10 +62,6 @@ handshakeOf h = record { timestamp = h .timestamp; peer = peerSpecOf (h .entry) 
 abbrev pub versionAnswer : VersionRead → Answer Version
 versionAnswer (VersionReads.Value v c) = got v (c .at)
 versionAnswer (VersionReads.Refused m) = refused m
-
-abbrev pub addressAnswer : AddressRead → Answer Address
-addressAnswer (AddressReads.Value a c) = got a (c .at)
-addressAnswer (AddressReads.Refused m) = refused m
 
 abbrev pub headAnswer : HeadRead → Answer Head
 headAnswer (HeadReads.Value h c) = got h (c .at)

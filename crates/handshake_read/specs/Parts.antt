@@ -6,11 +6,8 @@ use Rattle.wire.specs.Reader.{Answer, got, refused, Reader, bind, pure, andThen
 use Rattle.vlq.specs.ShortString.{shortString}
 use Rattle.types.specs.declared.Version.{Version}
 use Rattle.types.specs.declared.Address.{Address}
-use Rattle.handshake.specs.Entry.{version, addressIf, EntryFeature, feature, entry}
-
--- an address flag byte, an address if the flag isn't 0
-unfoldable pub declaredAddress : Reader Address
-declaredAddress = andThen byte addressIf
+use Rattle.handshake.specs.Entry.{version, EntryFeature, feature, entry}
+use Rattle.address_read.specs.DeclaredAddress.{declaredAddress}
 
 pub record EntryHead : Type 0 where
   pub agent : Segment

@@ -18,7 +18,8 @@ use Rattle.types.specs.declared.Version.{Version}
 use Rattle.types.specs.declared.Address.{Address}
 use Rattle.handshake.specs.Entry.{version, addressIf, EntryFeature, feature, Entry, entry}
 use Rattle.handshake.specs.Verdict.{firstFeature}
-use Rattle.handshake_read.specs.Parts.{declaredAddress, EntryHead, head, EntryFeatures, features, nth}
+use Rattle.address_read.specs.DeclaredAddress.{declaredAddress}
+use Rattle.handshake_read.specs.Parts.{EntryHead, head, EntryFeatures, features, nth}
 
 -- ---- an entry is its head and then its features
 

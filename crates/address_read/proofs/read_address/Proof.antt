@@ -1,14 +1,14 @@
--- `handshake_read::read_address` meets its contract: the definition, rewritten with what each of its readers answered.
+-- `address_read::read_address` meets its contract: the definition, rewritten with what each of its readers answered.
 use mathlib.Core.Path.{sym, ap, _∙_}
 use denote.Ref.{now}
 use Rattle.wire.specs.ReaderLaws.{map-got, map-refused}
 use Rattle.vlq.specs.Answers.{byteAnswer, vlqAnswer, partAnswer}
 use Rattle.wire.specs.Reader.{partOf}
 use Rattle.handshake.specs.Entry.{address}
-use Rattle.handshake_read.proofs.AddressLaws.{address-inside, address-read}
+use Rattle.address_read.proofs.AddressLaws.{address-inside, address-read}
 use borrow.Author.Needs.{needs}
-use Rattle.handshake_read.proofs.read_address.Statement.{statement}
-use Rattle.handshake_read.proofs.read_address.Tie as tie
+use Rattle.address_read.proofs.read_address.Statement.{statement}
+use Rattle.address_read.proofs.read_address.Tie as tie
 
 address-of-requires : tie.Need-address-of-requires
 address-of-requires c κs =

@@ -1,9 +1,9 @@
--- `handshake_read::number` meets its contract. The loop's invariant and what follows from it stand in `NumberLoop`.
+-- `address_read::number` meets its contract. The loop's invariant and what follows from it stand in `NumberLoop`.
 use Prim.Native.Nat.{_-_, _+_}
 use native.Mathlib.Omega.{arith}
-use Rattle.handshake_read.proofs.NumberLoop.{NumberSoFar, number-start, number-fits, number-again, number-end}
-use Rattle.handshake_read.proofs.number.Statement.{statement}
-use Rattle.handshake_read.proofs.number.Tie as tie
+use Rattle.address_read.proofs.NumberLoop.{NumberSoFar, number-start, number-fits, number-again, number-end}
+use Rattle.address_read.proofs.number.Statement.{statement}
+use Rattle.address_read.proofs.number.Tie as tie
 
 abbrev Inv-loop : tie.InvT-loop
 Inv-loop s at n x₀ i₀ x i = NumberSoFar s at n x i

@@ -1,12 +1,12 @@
--- `handshake_read::read_declared_address` meets its contract: the definition, rewritten with the flag that was read.
+-- `address_read::read_declared_address` meets its contract: the definition, rewritten with the flag that was read.
 use mathlib.Core.Path.{sym, ap, _∙_}
 use Rattle.vlq.specs.Answers.{byteAnswer}
 use borrow.Author.Tests.{eq-eqb, ne-eqb}
 use Rattle.handshake.specs.Entry.{addressIf}
-use Rattle.handshake_read.specs.Parts.{declaredAddress}
+use Rattle.address_read.specs.DeclaredAddress.{declaredAddress}
 use borrow.Author.Needs.{needs}
-use Rattle.handshake_read.proofs.read_declared_address.Statement.{statement}
-use Rattle.handshake_read.proofs.read_declared_address.Tie as tie
+use Rattle.address_read.proofs.read_declared_address.Statement.{statement}
+use Rattle.address_read.proofs.read_declared_address.Tie as tie
 
 returns : tie.Need-returns
 unfolding declaredAddress addressIf

@@ -1,10 +1,10 @@
--- `handshake_read::address_of` meets its contract: the numbers are those of the address's bytes.
+-- `address_read::address_of` meets its contract: the numbers are those of the address's bytes.
 use native.Mathlib.Omega.{arith}
 use denote.Ref.{now}
-use Rattle.handshake_read.proofs.AddressLaws.{address-v4, address-v6, address-none}
+use Rattle.address_read.proofs.AddressLaws.{address-v4, address-v6, address-none}
 use borrow.Author.Needs.{needs}
-use Rattle.handshake_read.proofs.address_of.Statement.{statement}
-use Rattle.handshake_read.proofs.address_of.Tie as tie
+use Rattle.address_read.proofs.address_of.Statement.{statement}
+use Rattle.address_read.proofs.address_of.Tie as tie
 
 returns : tie.Need-returns
 returns c = let a = c .before .before .before .args in address-v4 (a .l) (now (a .s)) (a .at) (a .port) (c .number .result) (c .before .if1 .taken) (c .number .ensures .0)

@@ -1,0 +1,2 @@
+pub mod DeclaredAddress
+pub mod Answers
