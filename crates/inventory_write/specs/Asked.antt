@@ -9,7 +9,7 @@ use Rattle.wire.specs.Bytes.{every}
 use Rattle.wire.specs.Output.{ask}
 use Rattle.wire.specs.declared.Written.{Written}
 use Rattle.vlq.specs.Vlq.{limit}
-use Rattle.vlq_write.specs.Asked.{writtenFor}
+use Rattle.output_ask.specs.Asked.{writtenFor}
 use Rattle.frame_write.specs.Asked.{frameLength}
 use Rattle.messages.specs.Message.{maxInvObjects}
 use Rattle.messages.specs.Value.{idsBytes}

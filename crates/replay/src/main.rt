@@ -7,7 +7,7 @@ use libc::STDOUT_FILENO;
 
 mod cursor;
 mod input;
-mod line;
+mod print;
 mod readers;
 mod results;
 mod shape;
@@ -27,7 +27,7 @@ fn main() {
 }
 
 fn print_bad() {
-    io::write_all(STDOUT_FILENO, b"bad\n");
+    print::text(b"bad\n");
 }
 
 // Prints the answers to all cases; at the first malformed one it prints `bad` and ends.
@@ -62,7 +62,7 @@ fn case_end(cases: &[u8], at: usize) -> usize
     if n <= left - 3 { at + 3 + n } else { 0 }
 }
 
-// Prints the line of a case. False where the case is malformed or its line is full.
+// Prints the line of a case. False where the case is malformed.
 fn print_case(n: u64, case: &[u8]) -> bool {
     if case.len() < 3 {
         return false;
@@ -72,18 +72,21 @@ fn print_case(n: u64, case: &[u8]) -> bool {
     if !shape::is_input(function, s) {
         return false;
     }
-    let mut line = line::empty();
-    let at = line::decimal(&mut line, 0, n);
-    let at = answer(function, s, &mut line, at);
-    let end = line::byte(&mut line, at, b'\n');
-    line::print(&line, end)
+    io::print_decimal(STDOUT_FILENO, n);
+    answer(function, s, shape::bytes_of(function, s));
+    print::text(b"\n");
+    true
 }
 
-fn answer(function: u8, s: &[u8], line: &mut line::Line, at: usize) -> usize {
-    match function {
-        1..=5 => cursor::answer(function, s, line, at),
-        6..=8 => writers::answer(function, s, line, at),
-        9..=17 => results::answer(function, s, line, at),
-        _ => readers::answer(function, s, line, at),
+// The functions by their numbers.
+fn answer(function: u8, s: &[u8], bytes: &[u8]) {
+    if function <= 5 {
+        cursor::answer(function, s, bytes);
+    } else if function <= 8 {
+        writers::answer(function, s, bytes);
+    } else if function <= 17 {
+        results::answer(function, s);
+    } else {
+        readers::answer(function, s, bytes);
     }
 }

@@ -1,18 +1,18 @@
 // The cases of the functions that have no place: the answer is the result alone.
 use crate::input::number;
-use crate::line;
-use crate::line::Line;
+use crate::input::small;
+use crate::print;
 use address_sanity::is_bogus_address;
+use export_arrays::network_of;
 use types::Address;
-use types::Network;
 
-pub(crate) fn answer(function: u8, s: &[u8], line: &mut Line, at: usize) -> usize {
+pub(crate) fn answer(function: u8, s: &[u8]) {
     match function {
-        9 | 11 => line::number(line, at, encoded(function, number(s, 0))),
-        10 | 12 => line::signed(line, at, decoded(function, number(s, 0))),
-        13..=15 => line::flag(line, at, test(function, s)),
-        16 => line::bytes(line, at, &blake2b_hash::digest(s)),
-        _ => line::bytes(line, at, &blake2b_hash::check(s)),
+        9 | 11 => print::number(encoded(function, number(s, 0))),
+        10 | 12 => print::signed(decoded(function, number(s, 0))),
+        13..=15 => print::flag(test(function, s)),
+        16 => print::bytes(&blake2b_hash::digest(s)),
+        _ => print::bytes(&blake2b_hash::check(s)),
     }
 }
 
@@ -43,21 +43,13 @@ fn test(function: u8, s: &[u8]) -> bool {
 fn is_bogus_v4(s: &[u8]) -> bool {
     let ip = low_32(number(s, 0));
     let port = low_16(number(s, 8));
-    is_bogus_address(Address::V4(ip, port), network(number(s, 16)))
+    is_bogus_address(Address::V4(ip, port), network_of(small(s, 16)))
 }
 
 fn is_bogus_v6(s: &[u8]) -> bool {
     let port = low_16(number(s, 16));
     let address = Address::V6(number(s, 0), number(s, 8), port);
-    is_bogus_address(address, network(number(s, 24)))
-}
-
-fn network(mainnet: u64) -> Network {
-    if mainnet == 0 {
-        Network::Testnet
-    } else {
-        Network::Mainnet
-    }
+    is_bogus_address(address, network_of(small(s, 24)))
 }
 
 fn widen(n: i32) -> i64 {

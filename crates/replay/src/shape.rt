@@ -1,5 +1,5 @@
 // Which inputs a function takes. oracle/README.md has the table of the functions and their arguments.
-ghost use Prim.Native.Nat.{_≤_};
+use crate::input::bytes_from;
 use crate::input::number;
 use crate::writers::MAX_ROOM;
 
@@ -14,7 +14,7 @@ fn is_function(function: u8) -> bool {
 
 // Whether an input of the function may have n bytes.
 fn is_length(function: u8, n: usize) -> bool {
-    let least = numbers(function) * 8;
+    let least = numbers_end(function);
     if has_bytes(function) {
         least <= n
     } else {
@@ -22,16 +22,19 @@ fn is_length(function: u8, n: usize) -> bool {
     }
 }
 
-// How many numbers an input of the function has.
-fn numbers(function: u8) -> usize
-    ensures { λ r. ⌜ r ≤ 4 ⌝ }
-{
+// The bytes behind the numbers of an input.
+pub(crate) fn bytes_of(function: u8, s: &[u8]) -> &[u8] {
+    bytes_from(s, numbers_end(function))
+}
+
+// How many bytes the numbers of an input of the function have.
+fn numbers_end(function: u8) -> usize {
     match function {
         13 | 16..=19 => 0,
-        5 | 7 | 8 | 22 | 24 | 26 | 28 | 29 | 31 => 2,
-        6 | 14 | 27 => 3,
-        15 => 4,
-        _ => 1,
+        5 | 7 | 8 | 22 | 24 | 26 | 28 | 29 | 31 => 16,
+        6 | 14 | 27 => 24,
+        15 => 32,
+        _ => 8,
     }
 }
 

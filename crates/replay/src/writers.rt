@@ -1,8 +1,7 @@
 // The writers' cases: a place and the room of the output, then what is written. The answer is the bytes written and their end, or the refusal.
 ghost use Prim.Native.Nat.{_≤_};
 use crate::input;
-use crate::line;
-use crate::line::Line;
+use crate::print;
 use wire::Written;
 
 // The largest output of a case.
@@ -10,21 +9,21 @@ pub(crate) const MAX_ROOM: usize = 400;
 
 type Output = [u8; MAX_ROOM];
 
-pub(crate) fn answer(function: u8, s: &[u8], line: &mut Line, at: usize) -> usize {
+pub(crate) fn answer(function: u8, s: &[u8], bytes: &[u8]) {
     let mut out = [0xA5u8; MAX_ROOM];
     let place = input::size(s, 0);
     let room = room_of(s);
-    match write(function, s, &mut out[0..room], place) {
-        Written::To(end) => written(&out, place, end, line, at),
-        Written::Refused(m) => line::refused(line, at, m),
+    match write(function, s, bytes, &mut out[0..room], place) {
+        Written::To(end) => written(&out, place, end),
+        Written::Refused(m) => print::refused(m),
     }
 }
 
-fn write(function: u8, s: &[u8], out: &mut [u8], place: usize) -> Written {
+fn write(function: u8, s: &[u8], bytes: &[u8], out: &mut [u8], place: usize) -> Written {
     match function {
         6 => vlq_write::write_vlq(out, place, input::number(s, 16)),
-        7 => vlq_write::write_short_string(out, place, input::bytes_from(s, 16)),
-        _ => part_write::write_part(out, place, input::bytes_from(s, 16)),
+        7 => vlq_write::write_short_string(out, place, bytes),
+        _ => part_write::write_part(out, place, bytes),
     }
 }
 
@@ -36,8 +35,7 @@ fn room_of(s: &[u8]) -> usize
     if room <= MAX_ROOM { room } else { MAX_ROOM }
 }
 
-fn written(out: &Output, place: usize, end: usize, line: &mut Line, at: usize) -> usize {
-    let bytes = input::bytes_between(out, place, end);
-    let at = line::bytes(line, at, bytes);
-    line::number(line, at, end as u64)
+fn written(out: &Output, place: usize, end: usize) {
+    print::bytes(input::bytes_between(out, place, end));
+    print::number(end as u64);
 }

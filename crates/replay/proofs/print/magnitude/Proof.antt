@@ -1,9 +1,9 @@
--- `replay::line::magnitude` is safe: one law of `proofs/Signed.antt` for each sign.
+-- `replay::print::magnitude` is safe: one law of `proofs/Signed.antt` for each sign.
 use mir.Syntax.{w64}
 use mir.Val.{toZ, ofZ}
 use Rattle.replay.proofs.Signed.{Below, below, above}
-use Rattle.replay.proofs.line.magnitude.Statement.{statement}
-use Rattle.replay.proofs.line.magnitude.Tie as tie
+use Rattle.replay.proofs.print.magnitude.Statement.{statement}
+use Rattle.replay.proofs.print.magnitude.Tie as tie
 
 negative : (c : tie.Then1) → Below (toZ w64 (ofZ w64 (c .before .args .n)))
 negative c = below _ (c .before .fits .n) (c .if1 .taken)

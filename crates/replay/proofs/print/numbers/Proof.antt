@@ -1,16 +1,16 @@
--- `replay::line::numbers` is safe and ends: the measure is what is left of r.
+-- `replay::print::numbers` is safe and ends: the measure is what is left of r.
 use Prim.Native.Nat.{_≤_, _-_}
 use native.Mathlib.Omega.{arith}
 use lib.ListN.{length}
 use borrow.Author.Needs.{needs}
-use Rattle.replay.proofs.line.numbers.Statement.{statement}
-use Rattle.replay.proofs.line.numbers.Tie as tie
+use Rattle.replay.proofs.print.numbers.Statement.{statement}
+use Rattle.replay.proofs.print.numbers.Tie as tie
 
 abbrev Inv-loop : tie.InvT-loop
-Inv-loop line₀ at r o₀ i₀ line o i = i ≤ length r
+Inv-loop r i₀ i = i ≤ length r
 
 abbrev μ-loop : tie.MeasureT-loop
-μ-loop line₀ at r o₀ i₀ line o i = length r - i
+μ-loop r i₀ i = length r - i
 
 pub numbers-spec : {M : Type 1} → statement M
 numbers-spec =

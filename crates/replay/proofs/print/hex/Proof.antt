@@ -1,15 +1,15 @@
--- `replay::line::hex` is safe and ends: the measure is what is left of s.
+-- `replay::print::hex` is safe and ends: the measure is what is left of s.
 use Prim.Native.Nat.{_≤_, _-_}
 use native.Mathlib.Omega.{arith}
 use lib.ListN.{length}
-use Rattle.replay.proofs.line.hex.Statement.{statement}
-use Rattle.replay.proofs.line.hex.Tie as tie
+use Rattle.replay.proofs.print.hex.Statement.{statement}
+use Rattle.replay.proofs.print.hex.Tie as tie
 
 abbrev Inv-loop : tie.InvT-loop
-Inv-loop line₀ at s o₀ i₀ line o i = i ≤ length s
+Inv-loop s i₀ i = i ≤ length s
 
 abbrev μ-loop : tie.MeasureT-loop
-μ-loop line₀ at s o₀ i₀ line o i = length s - i
+μ-loop s i₀ i = length s - i
 
 pub hex-spec : {M : Type 1} → statement M
 hex-spec =
@@ -19,6 +19,7 @@ hex-spec =
     μ-loop
     (λ c. omega arith)
     (λ c. omega arith)
+    (λ c κs. tt)
     (λ c κs. tt)
     (λ c. omega arith)
     (λ c. omega arith)
