@@ -1,7 +1,7 @@
 -- Laws of the bytes of an address: those of its numbers, and how many there are.
 use Prim.Native.Nat.{ℕ, _+_, _/_, _%_, _^_, _<_}
 use native.Mathlib.Omega.{arith}
-use mathlib.Core.List.{List, [], _∷_, _++_}
+use mathlib.Core.List.{[], _∷_, _++_}
 use mathlib.Core.Path.{_≡_}
 use lib.ListN.{length, length-append}
 use Rattle.wire.specs.Bytes.{bigEndianBytes}

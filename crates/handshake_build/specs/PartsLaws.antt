@@ -33,7 +33,7 @@ unfolding endOf
 wrote-end before after out at bs says left is f t h =
     record { end = is ∙ ap endOf (says ∙ written-to before after out at bs f t h); bytes = wrote-checked before after out at bs says left f t h .bytes }
 
--- of bytes that depend on a signed number, which was passed on
+-- the same of bytes that depend on a signed number n, which the writer was passed as m
 pub wrote-passed : (out : List ℕ) (at : ℕ) (bytes : ℤ → List ℕ) (n : ℤ) {m : ℤ} {r : Written} {last : List ℕ} {e : ℕ} → m ≡ n
     → r ≡ written [] [] out at (bytes m) → last ≡ outputAfter r out at (bytes m) → e ≡ endOf r
     → at + length (bytes n) ≤ length out → Wrote out at (bytes n) e last
