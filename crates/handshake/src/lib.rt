@@ -1,4 +1,5 @@
-// Entries and handshakes: their definitions and laws, in specs/. Readers stand in handshake_read, writers in handshake_write.
+// Entries and handshakes: their definitions and laws, in specs/. Readers stand in address_read, handshake_read and handshake_verdict, writers in
+// entry_write, handshake_write and handshake_build.
 // A writer gets lists as tables of u32 beside a lent buffer; these are the rows.
 
 // A feature: its id, and the place and length of its body in the buffer.
