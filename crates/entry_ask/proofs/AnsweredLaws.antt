@@ -1,7 +1,7 @@
 -- What a row's tests tell of its questions, and what is said once every question is answered "yes".
 use Prim.Native.Nat.{ℕ, zero, suc, _+_, _/_, _≤_, _<_}
 use native.Mathlib.Omega.{arith}
-use mathlib.Core.Bool.{Bool, true, false, _&&_}
+use mathlib.Core.Bool.{Bool, true, false, true≢false, _&&_}
 use mathlib.Core.List.{List, []}
 use mathlib.Core.Path.{_≡_, refl, sym, ap, _∙_}
 use lib.ListN.{length}
@@ -30,7 +30,7 @@ use Rattle.entry_questions.specs.declared.About.the-variants.{Inside, Short, Ut
 
 -- of an answer "no" nothing is told
 pub untold : {A : Type 0} → false ≡ true → A
-untold e = let z : _≡_ {A = ℕ} 0 1 = cc in absurd (omega arith)
+untold e = absurd (true≢false (sym e))
 
 every-of : {A : Type 0} (test : A → Bool) (f : ℕ → A) (i n : ℕ) → ((k : ℕ) → i ≤ k → k < i + n → test (f k) ≡ true) → every test (rows f i n) ≡ true
 unfolding every rows

@@ -2,4 +2,4 @@ pub mod Ready
 pub mod ReadyLaws
 pub mod Rows
 pub mod RowsLaws
-pub mod StoreLaws
+pub mod NumbersLaws

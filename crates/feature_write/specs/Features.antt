@@ -28,8 +28,8 @@ made network mode statetype verifying blocks session =
       sessionId = session;
     }
 
-unfoldable pub modeOf : ProxyMode → ℕ → Bool → ℤ → FeatureValue
-modeOf mode statetype verifying blocks = modeFeature (made Mainnet mode statetype verifying blocks (pos 0))
+unfoldable pub modeFeatureOf : ProxyMode → ℕ → Bool → ℤ → FeatureValue
+modeFeatureOf mode statetype verifying blocks = modeFeature (made Mainnet mode statetype verifying blocks (pos 0))
 
-unfoldable pub sessionOf : Network → ℤ → FeatureValue
-sessionOf network session = sessionFeature (made network Full 0 false (pos 0) session)
+unfoldable pub sessionFeatureOf : Network → ℤ → FeatureValue
+sessionFeatureOf network session = sessionFeature (made network Full 0 false (pos 0) session)

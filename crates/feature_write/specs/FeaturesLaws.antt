@@ -16,15 +16,15 @@ use Rattle.types.specs.declared.ProxyMode.{ProxyMode}
 use Rattle.types.specs.declared.ProxyMode.the-variants.{Full, Light}
 use Rattle.handshake.specs.Value.{FeatureValue, featureBytes}
 use Rattle.handshake.specs.Writes.{Config, nipopow, modeFeature, sessionFeature}
-use Rattle.feature_write.specs.Features.{modeOf, sessionOf}
+use Rattle.feature_write.specs.Features.{modeFeatureOf, sessionFeatureOf}
 
 module _ (c : Config) where
-  pub mode-of : modeFeature c ≡ modeOf (c .mode) (c .stateType) (c .verifying) (c .blocksToKeep)
-  unfolding modeFeature modeOf
+  pub mode-of : modeFeature c ≡ modeFeatureOf (c .mode) (c .stateType) (c .verifying) (c .blocksToKeep)
+  unfolding modeFeature modeFeatureOf
   mode-of = refl
 
-  pub session-of : sessionFeature c ≡ sessionOf (c .network) (c .sessionId)
-  unfolding sessionFeature sessionOf
+  pub session-of : sessionFeature c ≡ sessionFeatureOf (c .network) (c .sessionId)
+  unfolding sessionFeature sessionFeatureOf
   session-of = refl
 
 -- ---- a feature with a short body, whose length is one byte
@@ -52,10 +52,10 @@ nipopow-two Light = omega arith
 
 module _ (mode : ProxyMode) (statetype : ℕ) (verifying : Bool) (blocks : ℤ) {z : ℕ} (e : z ≡ zigzagEncode blocks) (small : z < 2 ^ 64) where
   abbrev mode-feature : FeatureValue
-  mode-feature = modeOf mode statetype verifying blocks
+  mode-feature = modeFeatureOf mode statetype verifying blocks
 
   mode-body : mode-feature .body ≡ statetype ∷ (cond verifying 1 0 ∷ (nipopow mode ++ vlqBytes z))
-  unfolding modeOf modeFeature
+  unfolding modeFeatureOf modeFeature
   mode-body = ap (λ (y : ℕ). statetype ∷ (cond verifying 1 0 ∷ (nipopow mode ++ vlqBytes y))) (sym e)
 
   mode-size : length (mode-feature .body) ≡ 2 + length (nipopow mode) + length (vlqBytes z)
@@ -69,7 +69,7 @@ module _ (mode : ProxyMode) (statetype : ℕ) (verifying : Bool) (blocks : ℤ) 
 
   pub mode-parts : {n flag : ℕ} → n + 2 ≡ length (featureBytes mode-feature) → flag ≡ cond verifying 1 0
       → featureBytes mode-feature ≡ (16 ∷ n ∷ statetype ∷ flag ∷ []) ++ (nipopow mode ++ vlqBytes z)
-  unfolding modeOf modeFeature
+  unfolding modeFeatureOf modeFeature
   mode-parts {n} {flag} p q =
       short-of mode-feature p mode-short ∙ ap (λ (l : List ℕ). 16 ∷ (n ∷ l)) mode-body
       ∙ ap (λ (x : ℕ). 16 ∷ (n ∷ (statetype ∷ (x ∷ (nipopow mode ++ vlqBytes z))))) (sym q)
@@ -80,10 +80,10 @@ length-magic Testnet = refl
 
 module _ (network : Network) (session : ℤ) {z : ℕ} (e : z ≡ zigzagEncode session) (small : z < 2 ^ 64) where
   abbrev session-feature : FeatureValue
-  session-feature = sessionOf network session
+  session-feature = sessionFeatureOf network session
 
   session-body : session-feature .body ≡ magicOf network ++ vlqBytes z
-  unfolding sessionOf sessionFeature
+  unfolding sessionFeatureOf sessionFeature
   session-body = ap (λ (y : ℕ). magicOf network ++ vlqBytes y) (sym e)
 
   session-size : length (session-feature .body) ≡ 4 + length (vlqBytes z)
@@ -96,5 +96,5 @@ module _ (network : Network) (session : ℤ) {z : ℕ} (e : z ≡ zigzagEncode s
   length-session = omega (arith, session-size, short-length session-feature session-short)
 
   pub session-parts : {n : ℕ} → n + 2 ≡ length (featureBytes session-feature) → featureBytes session-feature ≡ (3 ∷ n ∷ []) ++ (magicOf network ++ vlqBytes z)
-  unfolding sessionOf sessionFeature
+  unfolding sessionFeatureOf sessionFeature
   session-parts {n} p = short-of session-feature p session-short ∙ ap (λ (l : List ℕ). 3 ∷ (n ∷ l)) session-body

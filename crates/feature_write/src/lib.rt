@@ -10,7 +10,7 @@ ghost use Rattle.wire.specs.OutputLaws.{Wrote};
 ghost use Rattle.types.specs.declared.Network.{Network};
 ghost use Rattle.handshake.specs.Value.{featureBytes};
 ghost use Rattle.handshake.specs.Writes.{nipopow};
-ghost use Rattle.feature_write.specs.Features.{modeOf, sessionOf};
+ghost use Rattle.feature_write.specs.Features.{modeFeatureOf, sessionFeatureOf};
 use output_ask::ask_place;
 use part_write::write_part;
 use types::Network;
@@ -36,8 +36,8 @@ pub fn write_mode(
     verifying: bool,
     blocks: i32,
 ) -> Written
-    ensures { λ r. ⌜ r ≡ written [] [] (now (out .entry)) at (featureBytes (modeOf mode statetype verifying blocks)) ⌝ }
-    ensures { λ r. ⌜ now (out .exit) ≡ outputAfter r (now (out .entry)) at (featureBytes (modeOf mode statetype verifying blocks)) ⌝ }
+    ensures { λ r. ⌜ r ≡ written [] [] (now (out .entry)) at (featureBytes (modeFeatureOf mode statetype verifying blocks)) ⌝ }
+    ensures { λ r. ⌜ now (out .exit) ≡ outputAfter r (now (out .entry)) at (featureBytes (modeFeatureOf mode statetype verifying blocks)) ⌝ }
 {
     let answer = ask_place(out.len(), at, Written::To(mode_len(mode, blocks)));
     if let Written::To(_) = answer {
@@ -48,7 +48,7 @@ pub fn write_mode(
 
 // How many bytes Mode is written as, whatever the state type and the flag.
 pub fn mode_len(mode: ProxyMode, blocks: i32) -> usize
-    ensures { λ r. ⌜ ((statetype : ℕ) (verifying : Bool) → r ≡ length (featureBytes (modeOf mode statetype verifying blocks))) × (r ≤ 16) ⌝ }
+    ensures { λ r. ⌜ ((statetype : ℕ) (verifying : Bool) → r ≡ length (featureBytes (modeFeatureOf mode statetype verifying blocks))) × (r ≤ 16) ⌝ }
 {
     let n = vlq_len(zigzag_encode(blocks) as u64);
     match mode {
@@ -58,8 +58,8 @@ pub fn mode_len(mode: ProxyMode, blocks: i32) -> usize
 }
 
 fn put_mode(out: &mut [u8], at: usize, mode: ProxyMode, statetype: u8, verifying: bool, blocks: i32)
-    requires { ⌜ at + length (featureBytes (modeOf mode statetype verifying blocks)) ≤ length (now out) ⌝ }
-    ensures { λ _. ⌜ now (out .exit) ≡ put (now (out .entry)) at (featureBytes (modeOf mode statetype verifying blocks)) ⌝ }
+    requires { ⌜ at + length (featureBytes (modeFeatureOf mode statetype verifying blocks)) ≤ length (now out) ⌝ }
+    ensures { λ _. ⌜ now (out .exit) ≡ put (now (out .entry)) at (featureBytes (modeFeatureOf mode statetype verifying blocks)) ⌝ }
 {
     let kept = zigzag_encode(blocks) as u64;
     out[at] = FEATURE_MODE;
@@ -98,8 +98,8 @@ fn put_nipopow(out: &mut [u8], at: usize, mode: ProxyMode) -> usize
 
 // The network's magic and the session id.
 pub fn write_session(out: &mut [u8], at: usize, network: Network, session: i64) -> Written
-    ensures { λ r. ⌜ r ≡ written [] [] (now (out .entry)) at (featureBytes (sessionOf network session)) ⌝ }
-    ensures { λ r. ⌜ now (out .exit) ≡ outputAfter r (now (out .entry)) at (featureBytes (sessionOf network session)) ⌝ }
+    ensures { λ r. ⌜ r ≡ written [] [] (now (out .entry)) at (featureBytes (sessionFeatureOf network session)) ⌝ }
+    ensures { λ r. ⌜ now (out .exit) ≡ outputAfter r (now (out .entry)) at (featureBytes (sessionFeatureOf network session)) ⌝ }
 {
     let answer = ask_place(out.len(), at, Written::To(session_len(session)));
     if let Written::To(_) = answer {
@@ -110,14 +110,14 @@ pub fn write_session(out: &mut [u8], at: usize, network: Network, session: i64) 
 
 // How many bytes Session is written as, in any network.
 pub fn session_len(session: i64) -> usize
-    ensures { λ r. ⌜ ((network : Network) → r ≡ length (featureBytes (sessionOf network session))) × (r ≤ 16) ⌝ }
+    ensures { λ r. ⌜ ((network : Network) → r ≡ length (featureBytes (sessionFeatureOf network session))) × (r ≤ 16) ⌝ }
 {
     6 + vlq_len(zigzag_encode_i64(session))
 }
 
 fn put_session(out: &mut [u8], at: usize, network: Network, session: i64)
-    requires { ⌜ at + length (featureBytes (sessionOf network session)) ≤ length (now out) ⌝ }
-    ensures { λ _. ⌜ now (out .exit) ≡ put (now (out .entry)) at (featureBytes (sessionOf network session)) ⌝ }
+    requires { ⌜ at + length (featureBytes (sessionFeatureOf network session)) ≤ length (now out) ⌝ }
+    ensures { λ _. ⌜ now (out .exit) ≡ put (now (out .entry)) at (featureBytes (sessionFeatureOf network session)) ⌝ }
 {
     let magic = network.magic();
     let id = zigzag_encode_i64(session);

@@ -13,7 +13,7 @@ use Rattle.output_ask.specs.Asked.{writtenFor}
 use Rattle.handshake.specs.Value.{featureBytes, versionBytes, handshakeBytes, entriesAsked}
 use Rattle.handshake.specs.Writes.{built}
 use Rattle.handshake.specs.Writes as writes
-use Rattle.feature_write.specs.Features.{modeOf, sessionOf}
+use Rattle.feature_write.specs.Features.{modeFeatureOf, sessionFeatureOf}
 use Rattle.handshake_build.specs.declared.Config.{Config}
 
 unfoldable pub endOf : Written → ℕ
@@ -54,7 +54,7 @@ headBytes c agent name = vlqBytes (c .timestamp) ++ (shortStringBytes agent ++ (
 
 -- the two features
 unfoldable pub modeBytes : Config → List ℕ
-modeBytes c = featureBytes (modeOf (c .mode) (c .statetype) (c .verifying) (c .blocks))
+modeBytes c = featureBytes (modeFeatureOf (c .mode) (c .statetype) (c .verifying) (c .blocks))
 
 unfoldable pub sessionBytes : Config → List ℕ
-sessionBytes c = featureBytes (sessionOf (c .network) (c .session))
+sessionBytes c = featureBytes (sessionFeatureOf (c .network) (c .session))

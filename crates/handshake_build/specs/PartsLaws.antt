@@ -21,7 +21,7 @@ use Rattle.vlq.specs.ShortString.{shortStringBytes}
 use Rattle.handshake.specs.Value.{FeatureValue, featureBytes, versionBytes, addressBytes, entryBytes, handshakeBytes, shortStrings, utf8Strings, fewFeatures, lengthsWithin, entriesAsked}
 use Rattle.handshake.specs.Writes.{modeFeature, sessionFeature, built}
 use Rattle.output_ask.specs.Asked.{placed}
-use Rattle.feature_write.specs.Features.{modeOf, sessionOf}
+use Rattle.feature_write.specs.Features.{modeFeatureOf, sessionFeatureOf}
 use Rattle.handshake_build.specs.declared.Config.{Config}
 use Rattle.handshake_build.specs.Parts.{endOf, configOf, builtSaid, BuildReady, headBytes, modeBytes, sessionBytes}
 
@@ -55,7 +55,7 @@ body-within f = omega (arith, length-append (vlqBytes (length (f .body))) (f .bo
 
 module _ (c : Config) (agent name : List ℕ) where
   pub built-parts : handshakeBytes (built (configOf c agent name)) ≡ headBytes c agent name ++ (addressBytes (c .address) ++ ((2 ∷ []) ++ (modeBytes c ++ sessionBytes c)))
-  unfolding handshakeBytes entryBytes built headBytes flatMap modeFeature sessionFeature modeOf sessionOf modeBytes sessionBytes
+  unfolding handshakeBytes entryBytes built headBytes flatMap modeFeature sessionFeature modeFeatureOf sessionFeatureOf modeBytes sessionBytes
   built-parts =
       ap
       (λ (l : List ℕ). vlqBytes (c .timestamp) ++ (shortStringBytes agent ++ (versionBytes (c .version) ++ (shortStringBytes name ++ (addressBytes (c .address) ++ (2 ∷ (modeBytes c ++ l)))))))
@@ -86,7 +86,7 @@ module _ (c : Config) (agent name : List ℕ) where
   -- once the strings are accepted, the room alone is left to ask
   pub built-placed : length (modeBytes c) ≤ 16 → length (sessionBytes c) ≤ 16 → (len at : ℕ) → at ≤ len → BuildReady agent name
       → placed len at (To (length (handshakeBytes (built (configOf c agent name))))) ≡ builtSaid len at (configOf c agent name)
-  unfolding placed builtSaid entriesAsked asked every shortStrings utf8Strings fewFeatures lengthsWithin built modeFeature sessionFeature modeOf sessionOf modeBytes sessionBytes
+  unfolding placed builtSaid entriesAsked asked every shortStrings utf8Strings fewFeatures lengthsWithin built modeFeature sessionFeature modeFeatureOf sessionFeatureOf modeBytes sessionBytes
   built-placed mode session len at h ready =
       let m = modeFeature (configOf c agent name) in
       let s = sessionFeature (configOf c agent name) in

@@ -18,6 +18,7 @@ use Rattle.handshake.specs.Writes.{entryAt, rowAsked, handshakeAt}
 use Rattle.entry_ask.specs.Asked.{entrySaid}
 use Rattle.entry_ask.specs.AskedLaws.{placed-row}
 use Rattle.output_ask.specs.Asked.{writtenFor, placed}
+use Rattle.output_ask.specs.CheckedLaws.{kept-unaccepted}
 use Rattle.handshake_write.specs.Behind.{longer}
 
 pub longer-asked : (v n : ℕ) (qs : List Question) → longer v (asked qs (To n)) ≡ asked qs (To (v + n))
@@ -65,9 +66,8 @@ module _ (before after : List Question) (out : List ℕ) (at m : ℕ) (a b : Lis
 -- a writer that has no room refuses
 pub kept-full : (before after : List Question) (out : List ℕ) (at : ℕ) (bs : List ℕ) (r : Written) → length out < at + length bs
     → r ≡ written before after out at bs → out ≡ outputAfter r out at bs
-unfolding outputAfter
-kept-full before after out at bs (To e) h says = absurd (omega (arith, written-accepted before after out at bs e (sym says) .room))
-kept-full before after out at bs (Refused m) h says = refl
+kept-full before after out at bs r h says =
+    kept-unaccepted r out at bs (λ (e : ℕ) (p : r ≡ To e). omega (arith, written-accepted before after out at bs e (sym says ∙ p) .room))
 
 -- ---- a timestamp with an entry
 

@@ -2,7 +2,7 @@
 use Prim.Native.Nat.{ℕ, _+_, _≤_}
 use native.Mathlib.Omega.{arith}
 use mathlib.Core.List.{List}
-use mathlib.Core.Path.{_≡_, sym, _∙_}
+use mathlib.Core.Path.{_≡_, refl, sym, _∙_}
 use lib.ListN.{length}
 use Rattle.wire.specs.declared.Written.{Written}
 use Rattle.wire.specs.declared.Written.the-variants.{To, Refused}
@@ -33,3 +33,9 @@ module _ (before after : List Question) (out : List ℕ) (at : ℕ) (bs : List �
       let q = written-to before after out at bs f t h in
       let z : _≡_ {A = ℕ} 0 1 = cc in
       absurd (omega arith)
+
+-- a writer that does not accept leaves the output as it was
+pub kept-unaccepted : (r : Written) (out : List ℕ) (at : ℕ) (bs : List ℕ) → ((e : ℕ) → r ≡ To e → ⊥) → out ≡ outputAfter r out at bs
+unfolding outputAfter
+kept-unaccepted (To e) out at bs h = absurd (h e refl)
+kept-unaccepted (Refused m) out at bs h = refl

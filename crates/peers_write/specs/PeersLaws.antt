@@ -26,6 +26,7 @@ use Rattle.handshake.specs.Value.{entryBytes, shortStrings, utf8Strings, fewFea
 use Rattle.handshake.specs.Tables.{Lent, entryRow, entryRows, entryOf, entriesOf, tablesWhole, entryInside}
 use Rattle.handshake.specs.RowsLaws.{length-rows}
 use Rattle.output_ask.specs.Asked.{placed}
+use Rattle.output_ask.specs.CheckedLaws.{kept-unaccepted}
 use Rattle.entry_ask.specs.Asked.{entriesSaid}
 use Rattle.entry_write.specs.Rows.{rowsAsked, rowsWritten}
 use Rattle.messages.specs.Value as Values
@@ -129,18 +130,18 @@ rows-peers network cap l out at start =
 -- it does not: the writer refuses, and the output is as it was
 pub not-started : (network : Network) (cap : ℕ) (l : Lent) (out : List ℕ) (at : ℕ) (bs : List ℕ) (r : Written) → r ≡ messageWritten network cap (writePeers l) out at
     → peersStart cap (length (l .entries) / 12) (length out) at ≡ false → out ≡ outputAfter r out at bs
-unfolding outputAfter peersStart messageWritten messageWhole messageInside messageAsked valueOf codeOf Values.entriesOf entriesAsked countWithin
-not-started network cap l out at bs (To e) says start =
+unfolding peersStart messageWritten messageWhole messageInside messageAsked valueOf codeOf Values.entriesOf entriesAsked countWithin
+not-started network cap l out at bs r says start =
+    kept-unaccepted r out at bs (λ (e : ℕ) (p : r ≡ To e).
     let count = length (l .entries) / 12 in
     let v = length (vlqBytes count) in
     let n = length (flatMap entryBytes (entriesOf l)) in
-    let h = written-accepted _ _ out at _ e (sym says) in
+    let h = written-accepted _ _ out at _ e (sym says ∙ p) in
     let within : leb count cap ≡ true = rw (length-entries l) at (h .rest .1 .1 .1 .1 .1 .1 .0) in
     let long = frameLength-body (v + n) (omega (arith, vlq-pos count)) in
     let room : at + (13 + v) ≤ length out = omega (arith, h .room, length-frame network 2 (peersBytes l), ap frameLength (length-peers l), long) in
     let z : true ≡ false = rw (le-leb (at + (13 + v)) (length out) room, within) at start in
-    absurd (true≢false z)
-not-started network cap l out at bs (Refused m) says start = refl
+    true≢false z)
 
 -- ---- what was stored
 

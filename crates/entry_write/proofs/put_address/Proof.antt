@@ -7,7 +7,7 @@ use lib.ListN.{length, length-set}
 use borrow.Author.Needs.{needs}
 use Rattle.wire.specs.OutputLaws.{wrote-then, wrote-byte, wrote-length, wrote-two}
 use Rattle.handshake.specs.Tables.{bytesAt}
-use Rattle.entry_write.specs.StoreLaws.{address-zero, address-some, length-some, kind-byte, all-bytes}
+use Rattle.entry_write.specs.NumbersLaws.{address-zero, address-some, length-some, kind-byte, all-bytes}
 use Rattle.entry_write.proofs.put_address.Statement.{statement}
 use Rattle.entry_write.proofs.put_address.Tie as tie
 

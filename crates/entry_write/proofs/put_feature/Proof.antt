@@ -8,7 +8,7 @@ use Rattle.wire.specs.OutputLaws.{wrote-then, wrote-byte, wrote-length}
 use Rattle.handshake.specs.Value.{featureBytes}
 use Rattle.handshake.specs.Tables.{featureOf}
 use Rattle.entry_length.specs.LengthLaws.{length-feature}
-use Rattle.entry_write.specs.StoreLaws.{id-byte}
+use Rattle.entry_write.specs.NumbersLaws.{id-byte}
 use Rattle.entry_write.proofs.put_feature.Statement.{statement}
 use Rattle.entry_write.proofs.put_feature.Tie as tie
 

@@ -6,7 +6,7 @@ use borrow.Author.Needs.{needs}
 use Rattle.wire.specs.OutputLaws.{wrote-then, wrote-length}
 use Rattle.entry_length.specs.Length.{headBytes}
 use Rattle.entry_length.specs.LengthLaws.{length-head}
-use Rattle.entry_write.specs.StoreLaws.{short-lengths}
+use Rattle.entry_write.specs.NumbersLaws.{short-lengths}
 use Rattle.entry_write.proofs.put_head.Statement.{statement}
 use Rattle.entry_write.proofs.put_head.Tie as tie
 

@@ -11,7 +11,7 @@ use Rattle.wire.specs.OutputLaws.{length-put, wrote-then, wrote-length, wrote-c
 use Rattle.vlq.specs.Vlq.{vlqBytes}
 use Rattle.zigzag.specs.Zigzag.{zigzagEncode}
 use Rattle.handshake.specs.Value.{featureBytes}
-use Rattle.feature_write.specs.Features.{modeOf}
+use Rattle.feature_write.specs.Features.{modeFeatureOf}
 use Rattle.feature_write.specs.FeaturesLaws.{length-mode, mode-parts}
 use Rattle.feature_write.proofs.put_mode.Statement.{statement}
 use Rattle.feature_write.proofs.put_mode.Tie as tie
@@ -26,7 +26,7 @@ sub-out : tie.Need-sub-out
 sub-out c =
     let a = c .before .before .before .args in
     let e = c .before .zigzag-encode .ensures ∙ ap zigzagEncode (toZ-ofZ (c .before .before .before .fits .blocks)) in
-    omega (arith, c .mode-len .ensures .0 (a .statetype) (a .verifying) ∙ ap (λ (x : ℤ). length (featureBytes (modeOf (a .mode) (a .statetype) (a .verifying) x))) (toZ-ofZ (c .before .before .before .fits .blocks)), length-mode (a .mode) (a .statetype) (a .verifying) (a .blocks) e (omega arith))
+    omega (arith, c .mode-len .ensures .0 (a .statetype) (a .verifying) ∙ ap (λ (x : ℤ). length (featureBytes (modeFeatureOf (a .mode) (a .statetype) (a .verifying) x))) (toZ-ofZ (c .before .before .before .fits .blocks)), length-mode (a .mode) (a .statetype) (a .verifying) (a .blocks) e (omega arith))
 
 slice-write-out-2 : tie.Need-slice-write-out-2
 slice-write-out-2 c =
@@ -58,7 +58,7 @@ returns c =
     let z = c .before .before .before .before .before .before .before .before .before .before .zigzag-encode .result in
     let e = c .before .before .before .before .before .before .before .before .before .before .zigzag-encode .ensures ∙ ap zigzagEncode (toZ-ofZ (c .before .before .before .before .before .before .before .before .before .before .before .before .fits .blocks)) in
     let size = length-mode (a .mode) (a .statetype) (a .verifying) (a .blocks) e (omega arith) in
-    let n = c .before .before .before .before .before .before .before .before .before .mode-len .ensures .0 (a .statetype) (a .verifying) ∙ ap (λ (x : ℤ). length (featureBytes (modeOf (a .mode) (a .statetype) (a .verifying) x))) (toZ-ofZ (c .before .before .before .before .before .before .before .before .before .before .before .before .fits .blocks)) in
+    let n = c .before .before .before .before .before .before .before .before .before .mode-len .ensures .0 (a .statetype) (a .verifying) ∙ ap (λ (x : ℤ). length (featureBytes (modeFeatureOf (a .mode) (a .statetype) (a .verifying) x))) (toZ-ofZ (c .before .before .before .before .before .before .before .before .before .before .before .before .fits .blocks)) in
     let v = c .before .before .before .before .before .before .put-nipopow .ensures in
     let w = wrote-checked [] [] _ (c .before .before .before .before .before .before .put-nipopow .result) (vlqBytes z) (c .before .before .write-vlq .ensures .0) (c .before .before .write-vlq .ensures .1) tt tt (omega (arith, size, v .end, simp length-set at (wrote-length v))) in
     let parts = mode-parts (a .mode) (a .statetype) (a .verifying) (a .blocks) e (omega arith) {n = c .before .before .before .before .before .before .before .before .before .mode-len .result - 2} {flag = c .before .before .before .before .before .before .before .before .flag-of .result} (omega (arith, n, size)) (c .before .before .before .before .before .before .before .before .flag-of .ensures) in

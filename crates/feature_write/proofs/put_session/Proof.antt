@@ -12,7 +12,7 @@ use Rattle.vlq.specs.Vlq.{vlqBytes}
 use Rattle.zigzag.specs.Zigzag.{zigzagEncode}
 use Rattle.types.specs.Magic.{magicOf}
 use Rattle.handshake.specs.Value.{featureBytes}
-use Rattle.feature_write.specs.Features.{sessionOf}
+use Rattle.feature_write.specs.Features.{sessionFeatureOf}
 use Rattle.feature_write.specs.FeaturesLaws.{length-magic, length-session, session-parts}
 use Rattle.feature_write.proofs.put_session.Statement.{statement}
 use Rattle.feature_write.proofs.put_session.Tie as tie
@@ -27,7 +27,7 @@ sub-out : tie.Need-sub-out
 sub-out c =
     let a = c .before .before .before .before .args in
     let e = c .before .zigzag-encode-i64 .ensures ∙ ap zigzagEncode (toZ-ofZ (c .before .before .before .before .fits .session)) in
-    omega (arith, c .session-len .ensures .0 (a .network) ∙ ap (λ (x : ℤ). length (featureBytes (sessionOf (a .network) x))) (toZ-ofZ (c .before .before .before .before .fits .session)), length-session (a .network) (a .session) e (omega arith))
+    omega (arith, c .session-len .ensures .0 (a .network) ∙ ap (λ (x : ℤ). length (featureBytes (sessionFeatureOf (a .network) x))) (toZ-ofZ (c .before .before .before .before .fits .session)), length-session (a .network) (a .session) e (omega arith))
 
 slice-write-out-2 : tie.Need-slice-write-out-2
 slice-write-out-2 c =
@@ -41,7 +41,7 @@ returns c =
     let z = c .before .before .before .before .before .before .before .before .before .before .zigzag-encode-i64 .result in
     let e = c .before .before .before .before .before .before .before .before .before .before .zigzag-encode-i64 .ensures ∙ ap zigzagEncode (toZ-ofZ (c .before .before .before .before .before .before .before .before .before .before .before .before .before .fits .session)) in
     let size = length-session (a .network) (a .session) e (omega arith) in
-    let n = c .before .before .before .before .before .before .before .before .before .session-len .ensures .0 (a .network) ∙ ap (λ (x : ℤ). length (featureBytes (sessionOf (a .network) x))) (toZ-ofZ (c .before .before .before .before .before .before .before .before .before .before .before .before .before .fits .session)) in
+    let n = c .before .before .before .before .before .before .before .before .before .session-len .ensures .0 (a .network) ∙ ap (λ (x : ℤ). length (featureBytes (sessionFeatureOf (a .network) x))) (toZ-ofZ (c .before .before .before .before .before .before .before .before .before .before .before .before .before .fits .session)) in
     let four = length-magic (a .network) in
     let magic = c .before .before .before .before .before .before .before .before .before .before .before .magic .ensures in
     let v = wrote-checked [] [] _ (a .at + 2) (magicOf (a .network)) (rw magic at (c .before .before .before .before .before .before .write-part .ensures .0)) (rw magic at (c .before .before .before .before .before .before .write-part .ensures .1)) tt tt (simp length-set (omega (arith, size, four))) in

@@ -12,7 +12,7 @@ use Rattle.wire.specs.Output.{put, asked}
 use Rattle.output_ask.specs.CheckedLaws.{accepted, stored, kept}
 use Rattle.handshake.specs.Value.{featureBytes}
 use Rattle.output_ask.specs.Asked.{placed}
-use Rattle.feature_write.specs.Features.{modeOf}
+use Rattle.feature_write.specs.Features.{modeFeatureOf}
 use Rattle.feature_write.proofs.write_mode.Statement.{statement}
 use Rattle.feature_write.proofs.write_mode.Tie as tie
 
@@ -20,7 +20,7 @@ put-mode-requires : tie.Need-put-mode-requires
 unfolding placed asked
 put-mode-requires c κs =
     let a = c .before .before .before .before .before .before .args in
-    let bytes : ℤ → List ℕ = λ x. featureBytes (modeOf (a .mode) (a .statetype) (a .verifying) x) in
+    let bytes : ℤ → List ℕ = λ x. featureBytes (modeFeatureOf (a .mode) (a .statetype) (a .verifying) x) in
     let size = ap (λ (x : ℤ). length (bytes x)) (toZ-ofZ (c .before .before .before .before .before .before .fits .blocks)) in
     omega (arith, size, accepted [] [] (now (a .out)) (a .at) (bytes (a .blocks)) (rw (c .before .before .before .before .mode-len .ensures .0 (a .statetype) (a .verifying) ∙ size) at (c .before .before .before .ask-place .ensures)) (c .before .enum-told .given .1) .room)
 
@@ -28,7 +28,7 @@ returns : tie.Need-returns
 unfolding placed asked
 returns c =
     let a = c .before .before .before .before .before .before .before .before .before .args in
-    let bytes : ℤ → List ℕ = λ x. featureBytes (modeOf (a .mode) (a .statetype) (a .verifying) x) in
+    let bytes : ℤ → List ℕ = λ x. featureBytes (modeFeatureOf (a .mode) (a .statetype) (a .verifying) x) in
     let same = toZ-ofZ (c .before .before .before .before .before .before .before .before .before .fits .blocks) in
     let size = ap (λ (x : ℤ). length (bytes x)) same in
     stored [] [] _ _ _ (rw (c .before .before .before .before .before .before .before .mode-len .ensures .0 (a .statetype) (a .verifying) ∙ size) at (c .before .before .before .before .before .before .ask-place .ensures)) (c .before .before .before .before .enum-told .given .1) (record { end = refl; bytes = c .before .before .put-mode .ensures ∙ ap (λ (x : ℤ). put (now (a .out)) (a .at) (bytes x)) same })
@@ -37,7 +37,7 @@ returns-2 : tie.Need-returns-2
 unfolding placed asked
 returns-2 c =
     let a = c .before .before .before .before .before .args in
-    let size = ap (λ (x : ℤ). length (featureBytes (modeOf (a .mode) (a .statetype) (a .verifying) x))) (toZ-ofZ (c .before .before .before .before .before .fits .blocks)) in
+    let size = ap (λ (x : ℤ). length (featureBytes (modeFeatureOf (a .mode) (a .statetype) (a .verifying) x))) (toZ-ofZ (c .before .before .before .before .before .fits .blocks)) in
     kept [] [] _ _ _ (rw (c .before .before .before .mode-len .ensures .0 (a .statetype) (a .verifying) ∙ size) at (c .before .before .ask-place .ensures)) (c .enum-told2 .given .1)
 
 pub write-mode-spec : {M : Type 1} → statement M

@@ -9,7 +9,7 @@ use lib.ListN.{length}
 use borrow.Author.Needs.{needs}
 use Rattle.vlq.specs.VlqLaws.{vlq-ten}
 use Rattle.handshake.specs.Value.{featureBytes}
-use Rattle.feature_write.specs.Features.{modeOf, sessionOf}
+use Rattle.feature_write.specs.Features.{modeFeatureOf, sessionFeatureOf}
 use Rattle.handshake_build.specs.Parts.{modeBytes, sessionBytes}
 use Rattle.handshake_build.proofs.build_len.Statement.{statement}
 use Rattle.handshake_build.proofs.build_len.Tie as tie
@@ -33,8 +33,8 @@ returns c =
     let g = c .before .before .before .before .before .before .args .config in
     let blocks : SFits w32 (g .blocks) = record { sfits = c .before .before .before .struct-told .given .1 .1 .1 .1 .0 .1 } in
     let session : SFits w64 (g .session) = record { sfits = c .before .struct-told2 .given .1 .1 .1 .1 .1 .1 .1 .1 .0 .1 } in
-    let m = c .before .before .mode-len .ensures .0 (g .statetype) (g .verifying) ∙ ap (λ (x : ℤ). length (featureBytes (modeOf (g .mode) (g .statetype) (g .verifying) x))) (toZ-ofZ blocks) in
-    let s = c .session-len .ensures .0 (g .network) ∙ ap (λ (x : ℤ). length (featureBytes (sessionOf (g .network) x))) (toZ-ofZ session) in
+    let m = c .before .before .mode-len .ensures .0 (g .statetype) (g .verifying) ∙ ap (λ (x : ℤ). length (featureBytes (modeFeatureOf (g .mode) (g .statetype) (g .verifying) x))) (toZ-ofZ blocks) in
+    let s = c .session-len .ensures .0 (g .network) ∙ ap (λ (x : ℤ). length (featureBytes (sessionFeatureOf (g .network) x))) (toZ-ofZ session) in
     (omega (arith, c .before .before .before .before .before .vlq-len .ensures, c .before .before .before .before .address-len .ensures .0, m, s), omega (arith, m, c .before .before .mode-len .ensures .1), omega (arith, s, c .session-len .ensures .1))
 
 pub build-len-spec : {M : Type 1} → statement M

@@ -10,7 +10,7 @@ use lib.ListN.{length}
 use borrow.Author.Needs.{needs}
 use Rattle.wire.specs.OutputLaws.{length-put, wrote-then, wrote-length}
 use Rattle.handshake.specs.Value.{featureBytes, addressBytes}
-use Rattle.feature_write.specs.Features.{modeOf, sessionOf}
+use Rattle.feature_write.specs.Features.{modeFeatureOf, sessionFeatureOf}
 use Rattle.handshake_build.specs.Parts.{headBytes, modeBytes, sessionBytes}
 use Rattle.handshake_build.specs.PartsLaws.{wrote-end, wrote-passed, built-parts, length-built}
 use Rattle.handshake_build.proofs.put_build.Statement.{statement}
@@ -37,9 +37,9 @@ returns c =
     let l2 = wrote-length w2 in
     let w3 = wrote-end [] [] _ (c .before .before .before .before .before .before .before .before .before .before .before .before .before .before .before .before .end-of .result) (2 ∷ []) (c .before .before .before .before .before .before .before .before .before .before .before .before .before .before .write-byte .ensures .0) (c .before .before .before .before .before .before .before .before .before .before .before .before .before .before .write-byte .ensures .1) (c .before .before .before .before .before .before .before .before .before .before .before .end-of2 .ensures) tt tt (omega (arith, room, size, w1 .end, l1, w2 .end, l2)) in
     let l3 = wrote-length w3 in
-    let w4 = wrote-passed _ (c .before .before .before .before .before .before .before .before .before .before .before .end-of2 .result) (λ x. featureBytes (modeOf (g .mode) (g .statetype) (g .verifying) x)) (g .blocks) (toZ-ofZ blocks) (c .before .before .before .before .before .before .before .before .write-mode .ensures .0) (c .before .before .before .before .before .before .before .before .write-mode .ensures .1) (c .before .before .before .before .before .end-of3 .ensures) (omega (arith, room, size, w1 .end, l1, w2 .end, l2, w3 .end, l3)) in
+    let w4 = wrote-passed _ (c .before .before .before .before .before .before .before .before .before .before .before .end-of2 .result) (λ x. featureBytes (modeFeatureOf (g .mode) (g .statetype) (g .verifying) x)) (g .blocks) (toZ-ofZ blocks) (c .before .before .before .before .before .before .before .before .write-mode .ensures .0) (c .before .before .before .before .before .before .before .before .write-mode .ensures .1) (c .before .before .before .before .before .end-of3 .ensures) (omega (arith, room, size, w1 .end, l1, w2 .end, l2, w3 .end, l3)) in
     let l4 = wrote-length w4 in
-    let w5 = wrote-passed _ (c .before .before .before .before .before .end-of3 .result) (λ x. featureBytes (sessionOf (g .network) x)) (g .session) (toZ-ofZ session) (c .before .before .write-session .ensures .0) (c .before .before .write-session .ensures .1) refl (omega (arith, room, size, w1 .end, l1, w2 .end, l2, w3 .end, l3, w4 .end, l4)) in
+    let w5 = wrote-passed _ (c .before .before .before .before .before .end-of3 .result) (λ x. featureBytes (sessionFeatureOf (g .network) x)) (g .session) (toZ-ofZ session) (c .before .before .write-session .ensures .0) (c .before .before .write-session .ensures .1) refl (omega (arith, room, size, w1 .end, l1, w2 .end, l2, w3 .end, l3, w4 .end, l4)) in
     rw (built-parts g (now (a .agent)) (now (a .name))) (wrote-then {a = head} w1 (wrote-then w2 (wrote-then w3 (wrote-then w4 w5))) .bytes)
 
 same-length : tie.Need-same-length
