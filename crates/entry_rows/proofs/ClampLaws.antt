@@ -16,16 +16,10 @@ clamped t m k e h =
     (λ (p : (length t ≤ m) × (length t ≤ k)). List·getD-eq-default t 0 (p .0) ∙ sym (List·getD-eq-default t 0 (p .1))) h
 
 -- the number in column i of row k, read in row r, which is k or the one after the last
-module _ (t : List ℕ) (k r i m n : ℕ) {x : ℕ} (read : x ≡ getD t m 0) where
-  pub in-twelve : r ≡ min k (length t / 12 + 1) → m ≡ 12 * r + i → n ≡ 12 * k + i → x ≡ getD t n 0
-  in-twelve e p q =
-      clamped t m n read
-      (⊎-elim (λ (l : length t / 12 < k). inr (omega arith, omega arith)) (λ (l : k ≤ length t / 12). inl (omega arith)) (lt-or-ge (length t / 12) k))
-
-  pub in-three : r ≡ min k (length t / 3 + 1) → m ≡ 3 * r + i → n ≡ 3 * k + i → x ≡ getD t n 0
-  in-three e p q =
-      clamped t m n read
-      (⊎-elim (λ (l : length t / 3 < k). inr (omega arith, omega arith)) (λ (l : k ≤ length t / 3). inl (omega arith)) (lt-or-ge (length t / 3) k))
+pub in-three : (t : List ℕ) (k r i m n : ℕ) {x : ℕ} → x ≡ getD t m 0 → r ≡ min k (length t / 3 + 1) → m ≡ 3 * r + i → n ≡ 3 * k + i → x ≡ getD t n 0
+in-three t k r i m n read e p q =
+    clamped t m n read
+    (⊎-elim (λ (l : length t / 3 < k). inr (omega arith, omega arith)) (λ (l : k ≤ length t / 3). inl (omega arith)) (lt-or-ge (length t / 3) k))
 
 -- n bytes from a place on, as far as they are there, without a place past the end
 pub part-clamped : (s : List ℕ) (at n : ℕ) → take (min (at + n) (length s) - min at (length s)) (drop (min at (length s)) s) ≡ bytesAt s at n

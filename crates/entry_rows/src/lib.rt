@@ -3,17 +3,31 @@ ghost use mathlib.Core.Path.{_≡_};
 ghost use Prim.Native.Nat.{_+_, _-_, _*_, _≤_, min};
 ghost use lib.ListN.{length, getD};
 ghost use Rattle.handshake.specs.Tables.{featureRow, entryRow, bytesAt};
+ghost use Rattle.entry_rows.specs.Row.{rowOrZeros};
 use handshake::EntryRow;
 use handshake::FeatureRow;
 
-// Row k of an entry table, with 0 for each number that is not there.
+// Row k of an entry table; outside it a row of zeros.
 pub fn entry_at(t: &[u32], k: usize) -> EntryRow
-    ensures { λ r. ⌜ r ≡ entryRow (now (t .entry)) k ⌝ }
+    ensures { λ r. ⌜ r ≡ rowOrZeros (now (t .entry)) k ⌝ }
 {
     if k < t.len() / 12 {
         whole_entry(t, k)
     } else {
-        partial_entry(t, k)
+        EntryRow {
+            agentat: 0,
+            agentlen: 0,
+            major: 0,
+            minor: 0,
+            patch: 0,
+            nameat: 0,
+            namelen: 0,
+            addrlen: 0,
+            addrat: 0,
+            port: 0,
+            first: 0,
+            count: 0,
+        }
     }
 }
 
@@ -35,26 +49,6 @@ fn whole_entry(t: &[u32], k: usize) -> EntryRow
         port: t[b + 9],
         first: t[b + 10],
         count: t[b + 11],
-    }
-}
-
-fn partial_entry(t: &[u32], k: usize) -> EntryRow
-    ensures { λ r. ⌜ r ≡ entryRow (now (t .entry)) k ⌝ }
-{
-    let b = 12 * min_of(k, t.len() / 12 + 1);
-    EntryRow {
-        agentat: number_at(t, b),
-        agentlen: number_at(t, b + 1),
-        major: number_at(t, b + 2),
-        minor: number_at(t, b + 3),
-        patch: number_at(t, b + 4),
-        nameat: number_at(t, b + 5),
-        namelen: number_at(t, b + 6),
-        addrlen: number_at(t, b + 7),
-        addrat: number_at(t, b + 8),
-        port: number_at(t, b + 9),
-        first: number_at(t, b + 10),
-        count: number_at(t, b + 11),
     }
 }
 
