@@ -4,15 +4,16 @@ use Prim.Native.Nat.{ℕ, _+_, min}
 use mathlib.Core.List.{List, [], _∷_, flatMap}
 use lib.ListN.{length}
 use Rattle.wire.specs.Bytes.{every}
-use Rattle.wire.specs.Output.{ask, asked}
+use Rattle.wire.specs.Output.{Question, ask, asked}
 use Rattle.wire.specs.declared.Written.{Written}
 use Rattle.wire.specs.declared.Written.the-variants.{To}
 use Rattle.vlq.specs.Vlq.{limit}
 use Rattle.handshake.specs.declared.EntryRow.{EntryRow}
 use Rattle.handshake.specs.Value.{entryBytes, entriesAsked}
-use Rattle.handshake.specs.Tables.{Lent, lent, entryRows, entryOf, entriesOf, tablesWhole, entryInside}
+use Rattle.handshake.specs.Tables.{Lent, entryRows, entriesOf, tablesWhole, entryInside}
 use Rattle.handshake.specs.Writes.{entryAt, rowAsked}
-use Rattle.entry_whole.specs.Whole.{rowWhole}
+use Rattle.entry_questions.specs.Questions.{rowHolds}
+use Rattle.entry_questions.specs.declared.About.the-variants.{Inside, Short, Utf8, Count, Lengths}
 
 -- of all entries, at most limit + 1
 unfoldable pub entriesSaid : Lent → Written
@@ -25,13 +26,12 @@ entriesSaid l =
 unfoldable pub entrySaid : Lent → ℕ → Written
 entrySaid l k = asked (ask 16 (tablesWhole l) ∷ rowAsked l k) (To (length (entryBytes (entryAt l k))))
 
--- the same where 16 is asked of this row and its feature rows alone
-unfoldable pub rowSaid : Lent → ℕ → Written
-rowSaid l k = asked (ask 16 (rowWhole l k) ∷ rowAsked l k) (To (length (entryBytes (entryAt l k))))
-
--- of a row whose numbers are as they should be
-unfoldable pub partsSaid : List ℕ → List ℕ → EntryRow → Written
-partsSaid features buffer r =
-    asked
-    (ask 12 (entryInside (lent [] features buffer) r) ∷ entriesAsked (entryOf (lent [] features buffer) r ∷ []))
-    (To (length (entryBytes (entryOf (lent [] features buffer) r))))
+-- the questions after 16 of some rows, each over all of them
+abbrev pub questionsOf : List ℕ → List ℕ → List EntryRow → List Question
+questionsOf features buffer rs =
+    ask 12 (every (rowHolds Inside features buffer) rs)
+    ∷ ask 13 (every (rowHolds Short features buffer) rs)
+    ∷ ask 4 (every (rowHolds Utf8 features buffer) rs)
+    ∷ ask 15 (every (rowHolds Count features buffer) rs)
+    ∷ ask 3 (every (rowHolds Lengths features buffer) rs)
+    ∷ []

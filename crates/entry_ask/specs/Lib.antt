@@ -1,4 +1,3 @@
 pub mod Asked
-pub mod Answered
 pub mod AskedLaws
 pub mod RowLaws

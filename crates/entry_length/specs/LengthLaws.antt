@@ -1,22 +1,21 @@
 -- How many bytes an entry, its address and its features are written as.
-use Prim.Native.Nat.{ℕ, _+_, _-_, _≤_, min}
+use Prim.Native.Nat.{ℕ, _+_, _-_, _≤_}
 use native.Mathlib.Omega.{arith}
-use mathlib.Core.Bool.{true, false}
 use mathlib.Core.List.{List, [], _∷_, _++_, map, flatMap, append-assoc}
 use mathlib.Core.Path.{_≡_, ap, _∙_}
 use lib.ListN.{length, drop, length-append, length-take, length-map}
 use borrow.Author.Tests.{ne-eqb}
-use Rattle.wire.specs.Bytes.{bigEndianBytes, every}
+use Rattle.wire.specs.Bytes.{bigEndianBytes}
 use Rattle.wire.specs.BytesLaws.{length-bigEndianBytes}
-use Rattle.vlq.specs.Vlq.{limit, vlqBytes}
+use Rattle.vlq.specs.Vlq.{vlqBytes}
 use Rattle.vlq.specs.ShortString.{shortStringBytes}
 use Rattle.handshake.specs.declared.FeatureRow.{FeatureRow}
 use Rattle.handshake.specs.declared.EntryRow.{EntryRow}
 use Rattle.handshake.specs.Entry.{addressOf}
-use Rattle.handshake.specs.Value.{EntryValue, fewFeatures, featureBytes, versionBytes, addressBytes, entryBytes}
+use Rattle.handshake.specs.Value.{featureBytes, versionBytes, addressBytes, entryBytes}
 use Rattle.handshake.specs.Tables.{Lent, featureRow, ownRows, bytesAt, featureOf, entryOf}
 use Rattle.handshake.specs.RowsLaws.{length-rows}
-use Rattle.entry_length.specs.Length.{entryLength, entriesLength, headBytes}
+use Rattle.entry_length.specs.Length.{headBytes}
 
 pub length-bytesAt-le : (s : List ℕ) (at n : ℕ) → length (bytesAt s at n) ≤ n
 length-bytesAt-le s at n = omega (arith, length-take n (drop at s))
@@ -84,21 +83,3 @@ length-head buffer r =
     let a = bytesAt buffer (r .agentat) (r .agentlen) in
     let n = bytesAt buffer (r .nameat) (r .namelen) in
     omega (arith, length-append (shortStringBytes a) ((r .major ∷ r .minor ∷ r .patch ∷ []) ++ shortStringBytes n), length-append (r .major ∷ r .minor ∷ r .patch ∷ []) (shortStringBytes n))
-
--- ---- with at most 255 features, and with more
-
-pub entry-few : (v : EntryValue) → fewFeatures v ≡ true → entryLength v ≡ length (entryBytes v)
-unfolding entryLength
-entry-few v h = rw h
-
-pub entry-many : (v : EntryValue) → fewFeatures v ≡ false → 0 ≡ entryLength v
-unfolding entryLength
-entry-many v h = rw h
-
-pub entries-few : (vs : List EntryValue) → every fewFeatures vs ≡ true → entriesLength vs ≡ min (length (flatMap entryBytes vs)) (limit + 1)
-unfolding entriesLength
-entries-few vs h = rw h
-
-pub entries-many : (vs : List EntryValue) → every fewFeatures vs ≡ false → 0 ≡ entriesLength vs
-unfolding entriesLength
-entries-many vs h = rw h

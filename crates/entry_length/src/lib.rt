@@ -1,15 +1,19 @@
-// How many bytes entries are written as, by the rows of their tables.
+// How many bytes the entry of a row is written as, where every question after 16 is answered "yes".
+ghost use mathlib.Core.Bool.{cond};
 ghost use mathlib.Core.Path.{_≡_};
-ghost use mathlib.Core.List.{List, [], map, flatMap};
-ghost use Prim.Native.Nat.{ℕ, _+_, _*_, _^_, _≤_, _<_, min};
+ghost use mathlib.Core.List.{List, map, flatMap};
+ghost use Prim.Native.Nat.{ℕ, _+_, _*_, _/_, _≤_};
 ghost use lib.ListN.{length};
+ghost use Rattle.wire.specs.Bytes.{every};
+ghost use Rattle.vlq.specs.Vlq.{vlqBytes};
 ghost use Rattle.handshake.specs.Entry.{addressOf};
 ghost use Rattle.handshake.specs.Value.{addressBytes, featureBytes};
-ghost use Rattle.handshake.specs.Tables.{lent, rows, featureRow, featureOf, entryOf, entriesOf};
-ghost use Rattle.entry_length.specs.Length.{entryLength, entriesLength};
-use entry_rows::entry_at;
+ghost use Rattle.handshake.specs.Tables.{rows, featureRow, featureOf};
+ghost use Rattle.entry_length.specs.Length.{rowFits, featureFits, rowLength};
+use entry_questions::address_inside;
+use entry_questions::is_inside;
+use entry_questions::strings_utf8;
 use entry_rows::feature_at;
-use entry_rows::part_at;
 use handshake::EntryRow;
 use handshake::FeatureRow;
 use vlq_write::vlq_len;
@@ -17,35 +21,43 @@ use vlq_write::vlq_len;
 // The most that a length may be.
 const LIMIT: usize = 16_388_608;
 
-// Of all entries of the table, LIMIT + 1 where they are more; 0 where one has more than 255 features, with which none is written.
-pub fn entries_len(entries: &[u32], features: &[u32], buffer: &[u8]) -> usize
-    ensures { λ r. ⌜ r ≡ entriesLength (entriesOf (lent (now (entries .entry)) (now (features .entry)) (now (buffer .entry)))) ⌝ }
+// Of the entry of a row; 0 where a question after 16 is answered "no". No entry has fewer than 6 bytes.
+pub fn row_len(features: &[u32], buffer: &[u8], e: EntryRow) -> usize
+    ensures { λ r. ⌜ (r ≡ rowLength (now (features .entry)) (now (buffer .entry)) e) × (r ≤ 10000000000000) ⌝ }
 {
-    let n = entries.len() / 12;
-    let mut m: usize = 0;
-    let mut k: usize = 0;
-    while k < n {
-        let e = entry_at(entries, k);
-        if 255 < e.count {
-            return 0;
-        }
-        m = min_of(m + entry_len(features, buffer, e), LIMIT + 1);
-        k += 1;
-    }
-    m
-}
-
-// Of the entry of a row; 0 where it has more than 255 features.
-pub fn entry_len(features: &[u32], buffer: &[u8], e: EntryRow) -> usize
-    ensures { λ r. ⌜ (r ≡ entryLength (entryOf (lent [] (now (features .entry)) (now (buffer .entry))) e)) × (r ≤ 10000000000000) ⌝ }
-{
-    if 255 < e.count {
+    if !row_fits(features.len() / 3, buffer.len(), e) {
         return 0;
     }
-    let agent = part_at(buffer, e.agentat, e.agentlen);
-    let name = part_at(buffer, e.nameat, e.namelen);
-    let own = features_len(features, buffer, e.first as usize, e.count as usize);
-    6 + agent.len() + name.len() + address_len(e) + own
+    if !strings_utf8(buffer, e) {
+        return 0;
+    }
+    let before = 6 + e.agentlen as usize + e.namelen as usize + address_len(e);
+    features_len(before, features, buffer, e.first as usize, e.count as usize)
+}
+
+// Is a row inside a table of so many feature rows and a buffer of len bytes, with short strings and at most 255 features?
+fn row_fits(rows: usize, len: usize, e: EntryRow) -> bool
+    ensures { λ r. ⌜ r ≡ rowFits rows len e ⌝ }
+{
+    if !is_inside(len, e.agentat, e.agentlen) {
+        return false;
+    }
+    if !is_inside(len, e.nameat, e.namelen) {
+        return false;
+    }
+    if !address_inside(len, e) {
+        return false;
+    }
+    if !is_inside(rows, e.first, e.count) {
+        return false;
+    }
+    if 255 < e.agentlen {
+        return false;
+    }
+    if 255 < e.namelen {
+        return false;
+    }
+    e.count <= 255
 }
 
 fn address_len(e: EntryRow) -> usize
@@ -60,28 +72,37 @@ fn address_len(e: EntryRow) -> usize
     1
 }
 
-fn features_len(features: &[u32], buffer: &[u8], first: usize, count: usize) -> usize
-    requires { ⌜ (first < 2 ^ 32) × (count ≤ 255) ⌝ }
-    ensures { λ r. ⌜ (r ≡ length (flatMap featureBytes (map (featureOf (now (buffer .entry))) (rows (featureRow (now (features .entry))) first count)))) × (r ≤ count * 10000000000) ⌝ }
+// Of what stands before an entry's features, and count features; 0 where one of them is outside the buffer or too long.
+fn features_len(before: usize, features: &[u32], buffer: &[u8], first: usize, count: usize) -> usize
+    requires { ⌜ (before ≤ 1000) × (first + count ≤ length (now features) / 3) × (count ≤ 255) ⌝ }
+    ensures { λ r. ⌜ (r ≡ cond (every (featureFits (length (now (buffer .entry)))) (rows (featureRow (now (features .entry))) first count)) (before + length (flatMap featureBytes (map (featureOf (now (buffer .entry))) (rows (featureRow (now (features .entry))) first count)))) 0) × (r ≤ 1000 + count * 10000000000) ⌝ }
 {
-    let mut m: usize = 0;
+    let mut m = before;
     let mut k: usize = 0;
     while k < count {
-        m += feature_len(buffer, feature_at(features, first + k));
+        let f = feature_at(features, first + k);
+        if !feature_fits(buffer.len(), f) {
+            return 0;
+        }
+        m += feature_len(f.len);
         k += 1;
     }
     m
 }
 
-fn feature_len(buffer: &[u8], f: FeatureRow) -> usize
-    ensures { λ r. ⌜ (r ≡ length (featureBytes (featureOf (now (buffer .entry)) f))) × (r ≤ 10000000000) ⌝ }
+// Is a feature's body short enough, and inside a buffer of len bytes?
+fn feature_fits(len: usize, f: FeatureRow) -> bool
+    ensures { λ r. ⌜ r ≡ featureFits len f ⌝ }
 {
-    let body = part_at(buffer, f.at, f.len);
-    1 + vlq_len(body.len() as u64) + body.len()
+    if LIMIT < f.len as usize {
+        return false;
+    }
+    is_inside(len, f.at, f.len)
 }
 
-fn min_of(a: usize, b: usize) -> usize
-    ensures { λ r. ⌜ r ≡ min a b ⌝ }
+// Of a feature with a body of n bytes.
+fn feature_len(n: u32) -> usize
+    ensures { λ r. ⌜ (r ≡ 1 + length (vlqBytes n) + n) × (r ≤ 10000000000) ⌝ }
 {
-    if a <= b { a } else { b }
+    1 + vlq_len(n as u64) + n as usize
 }

@@ -1,6 +1,6 @@
 -- A question of an entry's row (document 01, "Questions", Writers), and of a feature's row.
 use Prim.Native.Nat.{ℕ}
-use mathlib.Core.Bool.{Bool, true}
+use mathlib.Core.Bool.{Bool, true, _&&_}
 use mathlib.Core.List.{List, []}
 use lib.Dec.{leb}
 use lib.ListN.{length}
@@ -25,3 +25,12 @@ rowHolds Short features buffer r = shortStrings (entryOf (lent [] features buffe
 rowHolds Utf8 features buffer r = utf8Strings (entryOf (lent [] features buffer) r)
 rowHolds Count features buffer r = fewFeatures (entryOf (lent [] features buffer) r)
 rowHolds Lengths features buffer r = lengthsWithin (entryOf (lent [] features buffer) r)
+
+-- each of them
+unfoldable pub rowYes : List ℕ → List ℕ → EntryRow → Bool
+rowYes features buffer r =
+    rowHolds Inside features buffer r
+    && (rowHolds Short features buffer r
+    && (rowHolds Utf8 features buffer r
+    && (rowHolds Count features buffer r
+    && rowHolds Lengths features buffer r)))

@@ -1,16 +1,14 @@
-// The questions of an entry's row after 16 (document 01, "Questions", Writers), each of one row or over all rows.
+// The questions of an entry's row after 16 (document 01, "Questions", Writers).
 ghost use mathlib.Core.Bool.{_||_};
 ghost use mathlib.Core.Path.{_≡_};
 ghost use mathlib.Core.List.{[]};
-ghost use Prim.Native.Nat.{_+_, _-_, _*_, _/_, _^_, _<_};
+ghost use Prim.Native.Nat.{_+_, _-_, _*_, _^_, _<_};
 ghost use lib.Dec.{eqb, leb};
-ghost use lib.ListN.{length};
 ghost use Rattle.wire.specs.Bytes.{every};
 ghost use Rattle.handshake.specs.Value.{shortStrings, utf8Strings};
-ghost use Rattle.handshake.specs.Tables.{lent, rows, featureRow, entryRow, entryOf, entryInside};
+ghost use Rattle.handshake.specs.Tables.{lent, rows, featureRow, entryOf, entryInside};
 ghost use Rattle.entry_questions.specs.Questions.{rowHolds, featureHolds};
 use entry_rows::address_size;
-use entry_rows::entry_at;
 use entry_rows::feature_at;
 use entry_rows::part_at;
 use handshake::EntryRow;
@@ -19,28 +17,13 @@ use handshake::FeatureRow;
 // The most that a length may be.
 const LIMIT: usize = 16_388_608;
 
-// A question that is asked of each row.
+// A question of a row.
 pub enum About {
     Inside,
     Short,
     Utf8,
     Count,
     Lengths,
-}
-
-// Is the question answered "yes" for each row of the entry table?
-pub fn every_row(about: About, entries: &[u32], features: &[u32], buffer: &[u8]) -> bool
-    ensures { λ r. ⌜ r ≡ every (rowHolds about (now (features .entry)) (now (buffer .entry))) (rows (entryRow (now (entries .entry))) 0 (length (now (entries .entry)) / 12)) ⌝ }
-{
-    let n = entries.len() / 12;
-    let mut k: usize = 0;
-    while k < n {
-        if !row_holds(about, features, buffer, entry_at(entries, k)) {
-            return false;
-        }
-        k += 1;
-    }
-    true
 }
 
 // Is the question answered "yes" for the row?
@@ -63,7 +46,7 @@ pub fn row_holds(about: About, features: &[u32], buffer: &[u8], e: EntryRow) -> 
 }
 
 // Is each part that a row names inside the buffer, and each feature row inside its table (question 12)?
-pub fn entry_inside(features: &[u32], buffer: &[u8], e: EntryRow) -> bool
+fn entry_inside(features: &[u32], buffer: &[u8], e: EntryRow) -> bool
     ensures { λ r. ⌜ r ≡ entryInside (lent [] (now (features .entry)) (now (buffer .entry))) e ⌝ }
 {
     let first = e.first as usize;
@@ -84,7 +67,7 @@ pub fn entry_inside(features: &[u32], buffer: &[u8], e: EntryRow) -> bool
 }
 
 // Have agent and name at most 255 bytes (question 13)?
-pub fn strings_short(buffer: &[u8], e: EntryRow) -> bool
+fn strings_short(buffer: &[u8], e: EntryRow) -> bool
     ensures { λ r. ⌜ r ≡ shortStrings (entryOf (lent [] [] (now (buffer .entry))) e) ⌝ }
 {
     let agent = part_at(buffer, e.agentat, e.agentlen);

@@ -7,6 +7,7 @@ use borrow.Author.Needs.{needs}
 use borrow.Author.Tests.{not-true, not-false}
 use Rattle.handshake.specs.Tables.{entryRow, entryNumbers}
 use Rattle.handshake.specs.RowsLaws.{Passed, passed-start, passed-next, passed-not, passed-end}
+use Rattle.entry_rows.specs.Row.{row-there}
 use Rattle.entry_whole.proofs.every_entry.Statement.{statement}
 use Rattle.entry_whole.proofs.every_entry.Tie as tie
 
@@ -25,7 +26,8 @@ entry-at-requires c κs = omega arith
 returns : tie.Need-returns Inv-loop μ-loop
 returns c =
     let l = c .before .before .before .before .loop in
-    let h = sym (ap entryNumbers (c .before .before .entry-at .ensures)) ∙ sym (c .before .entry-numbers .ensures) ∙ not-true _ (c .if1 .taken) in
+    let e = c .before .before .entry-at .ensures ∙ row-there _ _ (omega arith) in
+    let h = sym (ap entryNumbers e) ∙ sym (c .before .entry-numbers .ensures) ∙ not-true _ (c .if1 .taken) in
     passed-not (l .inv .1) (omega arith) h
 
 add-k : tie.Need-add-k Inv-loop μ-loop
@@ -37,7 +39,8 @@ loop-less c = omega arith
 loop-again : tie.Need-loop-again Inv-loop μ-loop
 loop-again c =
     let l = c .before .before .before .before .loop in
-    let h = sym (ap entryNumbers (c .before .before .entry-at .ensures)) ∙ sym (c .before .entry-numbers .ensures) ∙ not-false _ (c .if1 .left) in
+    let e = c .before .before .entry-at .ensures ∙ row-there _ _ (omega arith) in
+    let h = sym (ap entryNumbers e) ∙ sym (c .before .entry-numbers .ensures) ∙ not-false _ (c .if1 .left) in
     (l .inv .0, passed-next (l .inv .1) (omega arith) h)
 
 returns-2 : tie.Need-returns-2 Inv-loop μ-loop

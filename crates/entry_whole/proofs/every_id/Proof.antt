@@ -1,25 +1,23 @@
 -- `entry_whole::every_id` meets its contract. The loop has come to row k; the ids before it are below 256.
-use Prim.Native.Nat.{_+_, _-_}
+use Prim.Native.Nat.{_-_, _/_}
 use native.Mathlib.Omega.{arith}
-use mathlib.Core.Path.{ap, _∙_}
+use mathlib.Core.Path.{_≡_, refl}
+use lib.ListN.{length}
+use borrow.Author.Needs.{needs}
 use borrow.Author.Tests.{lt-ltb, le-ltb}
-use Rattle.wire.specs.Bytes.{every}
 use Rattle.handshake.specs.Tables.{featureRow, featureNumbers}
-use Rattle.handshake.specs.RowsLaws.{rows-from, Passed, passed-start, passed-next, passed-not, passed-end}
+use Rattle.handshake.specs.RowsLaws.{Passed, passed-start, passed-next, passed-not, passed-end}
 use Rattle.entry_whole.proofs.every_id.Statement.{statement}
 use Rattle.entry_whole.proofs.every_id.Tie as tie
 
 abbrev Inv-loop : tie.InvT-loop
-Inv-loop features first count k₀ k = Passed featureNumbers (λ i. featureRow features (first + i)) count k
+Inv-loop features n k₀ k = (n ≡ length features / 3) × Passed featureNumbers (featureRow features) (length features / 3) k
 
 abbrev μ-loop : tie.MeasureT-loop
-μ-loop features first count k₀ k = count - k
+μ-loop features n k₀ k = n - k
 
 loop-holds : tie.Need-loop-holds Inv-loop μ-loop
-loop-holds c = passed-start _ _ _
-
-add-if1 : tie.Need-add-if1 Inv-loop μ-loop
-add-if1 c = omega arith
+loop-holds c = (refl, passed-start _ _ _)
 
 mul-if1 : tie.Need-mul-if1 Inv-loop μ-loop
 mul-if1 c = omega arith
@@ -32,7 +30,7 @@ shared-slice-read-if1 c = omega arith
 
 returns : tie.Need-returns Inv-loop μ-loop
 unfolding featureNumbers
-returns c = passed-not (c .before .before .before .loop .inv) (omega arith) (le-ltb _ _ (c .if1 .taken)) ∙ ap (every _) (rows-from _ _ _)
+returns c = passed-not (c .before .before .before .loop .inv .1) (omega arith) (le-ltb _ _ (c .if1 .taken))
 
 add-k : tie.Need-add-k Inv-loop μ-loop
 add-k c = omega arith
@@ -42,10 +40,10 @@ loop-less c = omega arith
 
 loop-again : tie.Need-loop-again Inv-loop μ-loop
 unfolding featureNumbers
-loop-again c = passed-next (c .before .before .before .loop .inv) (omega arith) (lt-ltb _ _ (c .if1 .left))
+loop-again c = let l = c .before .before .before .loop in (l .inv .0, passed-next (l .inv .1) (omega arith) (lt-ltb _ _ (c .if1 .left)))
 
 returns-2 : tie.Need-returns-2 Inv-loop μ-loop
-returns-2 c = passed-end (c .before .loop .inv) (c .loop-test .left) ∙ ap (every _) (rows-from _ _ _)
+returns-2 c = let l = c .before .loop in passed-end (l .inv .1) (omega arith)
 
 pub every-id-spec : {M : Type 1} → statement M
 every-id-spec =
@@ -54,7 +52,6 @@ every-id-spec =
     Inv-loop
     μ-loop
     loop-holds
-    add-if1
     mul-if1
     mul-if1-2
     shared-slice-read-if1
