@@ -1,1 +1,2 @@
 pub mod CopiedLaws
+pub mod LastBlockLaws

@@ -2,7 +2,7 @@
 // Each writer asks its questions first and stores only once all are answered "yes".
 ghost use mathlib.Core.Path.{_≡_};
 ghost use mathlib.Core.List.{[], _∷_};
-ghost use Prim.Native.Nat.{_+_, _≤_};
+ghost use Prim.Native.Nat.{_+_, _≤_, _<_};
 ghost use lib.ListN.{length, take, drop};
 ghost use Rattle.wire.specs.Output.{written, outputAfter};
 ghost use Rattle.wire.specs.OutputLaws.{Wrote};
@@ -33,13 +33,13 @@ pub fn write_byte(out: &mut [u8], at: usize, b: u8) -> Written
     answer
 }
 
-// Stores all bytes of s, eight at a time, and gives the place after them.
+// Stores all bytes of s, in blocks of eight if there are as many, and gives the place after them.
 fn put_part(out: &mut [u8], at: usize, s: &[u8]) -> usize
     requires { ⌜ at + length (now s) ≤ length (now out) ⌝ }
     ensures { λ r. ⌜ Wrote (now (out .entry)) at (now (s .entry)) r (now (out .exit)) ⌝ }
 {
     if s.len() < 8 {
-        return put_bytes(out, at, s);
+        return put_few(out, at, s);
     }
     put_blocks(out, at, s);
     let last = s.len() - 8;
@@ -69,6 +69,34 @@ fn eight_at(s: &[u8], at: usize) -> [u8; 8]
 {
     let mut block = [0u8; 8];
     for i in 0..8 {
+        block[i] = s[at + i];
+    }
+    block
+}
+
+// Stores all bytes of s, fewer than eight, in blocks of four if there are as many, and gives the place after them.
+fn put_few(out: &mut [u8], at: usize, s: &[u8]) -> usize
+    requires { ⌜ length (now s) < 8 ⌝ }
+    requires { ⌜ at + length (now s) ≤ length (now out) ⌝ }
+    ensures { λ r. ⌜ Wrote (now (out .entry)) at (now (s .entry)) r (now (out .exit)) ⌝ }
+{
+    if s.len() < 4 {
+        return put_bytes(out, at, s);
+    }
+    let first = four_at(s, 0);
+    put_bytes(out, at, &first);
+    let last = s.len() - 4;
+    let block = four_at(s, last);
+    put_bytes(out, at + last, &block)
+}
+
+// Four bytes from a place on. By value, so that the compiler copies them at once.
+fn four_at(s: &[u8], at: usize) -> [u8; 4]
+    requires { ⌜ at + 4 ≤ length (now s) ⌝ }
+    ensures { λ r. ⌜ r ≡ take 4 (drop at (now (s .entry))) ⌝ }
+{
+    let mut block = [0u8; 4];
+    for i in 0..4 {
         block[i] = s[at + i];
     }
     block
