@@ -29,7 +29,8 @@ put-entry-requires c κs =
     let a = s .args in
     let l = lent (now (a .entries)) (now (a .features)) (now (a .buffer)) in
     let k = c .before .before .before .loop .k in
-    rw (c .before .entry-at .ensures)
+    let row = c .before .entry-at .ensures in
+    rw row
     (each-row-ready l k (omega arith) (s .pre .0), rw (own-entry l (entryRow (l .entries) k)) (putting-room (c .before .before .before .loop .inv) (omega arith)))
 
 loop-less : tie.Need-loop-less Inv-loop μ-loop
@@ -41,7 +42,8 @@ loop-again c =
     let a = s .args in
     let l = lent (now (a .entries)) (now (a .features)) (now (a .buffer)) in
     let i = c .before .before .before .before .before .before .loop in
-    putting-turn (i .inv) (omega arith) (rw (c .before .before .before .before .entry-at .ensures, own-entry l (entryRow (l .entries) (i .k))) at (c .before .before .put-entry .ensures))
+    let row = c .before .before .before .before .entry-at .ensures in
+    putting-turn (i .inv) (omega arith) (rw (row, own-entry l (entryRow (l .entries) (i .k))) at (c .before .before .put-entry .ensures))
 
 same-length : tie.Need-same-length Inv-loop μ-loop
 same-length c = c .before .loop .inv .writing .long
