@@ -1,10 +1,12 @@
 -- `entry_write::write_entry` meets its contract: every question was asked first, and the entry was stored once all held.
+use mathlib.Core.Path.{_∙_}
 use denote.Ref.{now}
 use borrow.Author.Needs.{needs}
 use Rattle.wire.specs.OutputLaws.{wrote-length}
 use Rattle.handshake.specs.Tables.{lent, entryRow}
+use Rattle.entry_rows.specs.Row.{row-there}
 use Rattle.entry_rows.specs.ValueLaws.{own-entry}
-use Rattle.entry_write.specs.EntryLaws.{entry-accepted, entry-stored, entry-kept}
+use Rattle.entry_write.specs.EntryLaws.{entry-in-table, entry-accepted, entry-stored, entry-kept}
 use Rattle.entry_write.proofs.write_entry.Statement.{statement}
 use Rattle.entry_write.proofs.write_entry.Tie as tie
 
@@ -14,7 +16,8 @@ put-entry-requires c κs =
     let a = d .before .before .before .before .before .before .args in
     let l = lent (now (a .entries)) (now (a .features)) (now (a .buffer)) in
     let yes = entry-accepted l (a .k) (now (a .out)) (a .at) (d .before .ask-entry .ensures) (d .ask-place .ensures) (c .before .before .enum-told .given .1) in
-    let row = c .entry-at .ensures in
+    let lt = entry-in-table l (a .k) (now (a .out)) (a .at) (d .before .ask-entry .ensures) (d .ask-place .ensures) (c .before .before .enum-told .given .1) in
+    let row = c .entry-at .ensures ∙ row-there (l .entries) (a .k) lt in
     rw row (yes .0, rw (own-entry l (entryRow (l .entries) (a .k))) (yes .1))
 
 same-length : tie.Need-same-length
@@ -25,7 +28,8 @@ returns c =
     let d = c .before .before .before .before .before .before .before in
     let a = d .before .before .before .before .before .before .args in
     let l = lent (now (a .entries)) (now (a .features)) (now (a .buffer)) in
-    let row = c .before .before .before .entry-at .ensures in
+    let lt = entry-in-table l (a .k) (now (a .out)) (a .at) (d .before .ask-entry .ensures) (d .ask-place .ensures) (c .before .before .before .before .before .enum-told .given .1) in
+    let row = c .before .before .before .entry-at .ensures ∙ row-there (l .entries) (a .k) lt in
     entry-stored l (a .k) (now (a .out)) (a .at) (d .before .ask-entry .ensures) (d .ask-place .ensures) (c .before .before .before .before .before .enum-told .given .1)
     (rw (row, own-entry l (entryRow (l .entries) (a .k))) at (c .before .before .put-entry .ensures))
 
