@@ -1,10 +1,10 @@
 -- What a row's numbers say, its strings and its address.
-use Prim.Native.Nat.{ℕ, zero, suc, _+_, _-_, _≤_, _<_}
+use Prim.Native.Nat.{ℕ, suc, _+_, _-_, _≤_, _<_}
 use native.Mathlib.Omega.{arith}
 use mathlib.Core.Bool.{true, _||_}
 use mathlib.Core.List.{List, [], _∷_, _++_}
 use mathlib.Core.Logic.{⊎-elim}
-use mathlib.Core.Path.{_≡_, refl, sym, ap}
+use mathlib.Core.Path.{_≡_, refl, ap}
 use lib.Dec.{eqb, leb}
 use lib.ListN.{length, getD, drop, length-append}
 use borrow.Author.Tests.{ltb-true, lt-ltb, leb-true, ne-eqb}
@@ -43,6 +43,10 @@ short-lengths buffer r h =
 pub address-zero : (l : ℕ) (bytes : List ℕ) (port : ℕ) → l ≡ 0 → addressBytes (addressOf l bytes port) ≡ 0 ∷ []
 unfolding addressBytes addressOf
 address-zero l bytes port e = rw e
+
+pub address-within : (r : EntryRow) (len : ℕ) → (eqb (r .addrlen) 0 || leb (r .addrat + (r .addrlen - 4)) len) ≡ true → (r .addrlen ≡ 0 → ⊥)
+    → r .addrat + (r .addrlen - 4) ≤ len
+address-within r len part some = leb-true (r .addrat + (r .addrlen - 4)) len (rw (ne-eqb (r .addrlen) 0 some) at part)
 
 module _ (buffer : List ℕ) (r : EntryRow) (are : every isByte buffer ≡ true) (numbers : entryNumbers r ≡ true)
     (part : (eqb (r .addrlen) 0 || leb (r .addrat + (r .addrlen - 4)) (length buffer)) ≡ true) (some : r .addrlen ≡ 0 → ⊥)

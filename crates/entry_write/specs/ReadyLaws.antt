@@ -1,44 +1,76 @@
 -- What is known of a row once its questions are answered "yes".
-use Prim.Native.Nat.{ℕ, _+_, _/_, _<_}
+use Prim.Native.Nat.{ℕ, _+_, _-_, _/_, _≤_, _<_}
 use native.Mathlib.Omega.{arith}
-use mathlib.Core.Bool.{Bool, true, false, _||_}
-use mathlib.Core.List.{[], _∷_}
+use mathlib.Core.Bool.{true, _||_}
+use mathlib.Core.List.{List, []}
 use mathlib.Core.Path.{_≡_}
-use lib.Dec.{leb, ltb}
+use lib.Dec.{eqb, leb, ltb}
 use lib.ListN.{length}
-use borrow.Author.Tests.{lt-leb, leb-true, le-ltb, ltb-true}
+use borrow.Author.Tests.{leb-true, ltb-true}
 use Rattle.wire.specs.Bytes.{every}
 use Rattle.wire.specs.BytesLaws.{and-true}
 use Rattle.wire.specs.OutputLaws.{AllHold}
+use Rattle.handshake.specs.declared.EntryRow.{EntryRow}
 use Rattle.handshake.specs.Value.{shortStrings, fewFeatures, entriesAsked}
-use Rattle.handshake.specs.Tables.{Lent, lent, entryRow, entryOf, entryNumbers, inside, entryInside}
-use Rattle.handshake.specs.TablesLaws.{own-range}
+use Rattle.handshake.specs.Tables.{Lent, lent, rows, featureRow, entryRow, entryRows, featureRows, ownRows, entryOf, wholeRows, featureNumbers, entryNumbers, tablesWhole, inside, featureInside, entryInside}
+use Rattle.handshake.specs.TablesLaws.{every-row, row-numbers, row-inside, own-range}
+use Rattle.handshake.specs.RowsLaws.{every-rows}
 use Rattle.handshake.specs.Writes.{rowInside, rowAsked}
-use Rattle.entry_whole.specs.Whole.{numbersWhole, rowWhole}
 use Rattle.entry_rows.specs.ValueLaws.{own-entry, length-features}
 use Rattle.entry_write.specs.Ready.{Ready}
 
-or-right : (t u : Bool) → t ≡ false → t || u ≡ true → u ≡ true
-or-right t u e h = rw e at h
+-- ---- the parts of a row
 
--- row k
-module _ (l : Lent) (k : ℕ) (whole : rowWhole l k ≡ true) (yes : AllHold (rowAsked l k)) where
+module _ (l : Lent) (r : EntryRow) (parts : entryInside l r ≡ true) where
+  pub agent-part : r .agentat + r .agentlen ≤ length (l .buffer)
+  unfolding entryInside inside
+  agent-part = leb-true (r .agentat + r .agentlen) (length (l .buffer)) (and-true (inside (l .buffer) (r .agentat) (r .agentlen)) _ parts .0)
+
+  pub name-part : r .nameat + r .namelen ≤ length (l .buffer)
+  unfolding entryInside inside
+  name-part =
+      let a = and-true (inside (l .buffer) (r .agentat) (r .agentlen)) _ parts .1 in
+      leb-true (r .nameat + r .namelen) (length (l .buffer)) (and-true (inside (l .buffer) (r .nameat) (r .namelen)) _ a .0)
+
+  pub feature-parts : every (featureInside (l .buffer)) (ownRows l r) ≡ true
+  unfolding entryInside
+  feature-parts =
+      let a = and-true (inside (l .buffer) (r .agentat) (r .agentlen)) _ parts .1 in
+      let b = and-true (inside (l .buffer) (r .nameat) (r .namelen)) _ a .1 in
+      let d = and-true (eqb (r .addrlen) 0 || inside (l .buffer) (r .addrat) (r .addrlen - 4)) _ b .1 in
+      and-true (leb (r .first + r .count) (length (l .features) / 3)) (every (featureInside (l .buffer)) (ownRows l r)) d .1
+
+-- the body of one of n feature rows from i on
+pub part-inside : (buffer t : List ℕ) (i n k : ℕ) → every (featureInside buffer) (rows (featureRow t) i n) ≡ true → k < n
+    → featureRow t (i + k) .at + featureRow t (i + k) .len ≤ length buffer
+unfolding featureInside inside
+part-inside buffer t i n k h l =
+    let f = featureRow t (i + k) in
+    leb-true (f .at + f .len) (length buffer) (every-row (featureInside buffer) (featureRow t) n i (i + k) h (omega arith) (omega arith))
+
+-- ---- row k
+
+whole-features : (l : Lent) → tablesWhole l ≡ true → every featureNumbers (featureRows l) ≡ true
+unfolding tablesWhole
+whole-features l whole =
+    let a = and-true (wholeRows 12 (l .entries)) _ whole .1 in
+    let b = and-true (wholeRows 3 (l .features)) _ a .1 in
+    and-true (every entryNumbers (entryRows l)) (every featureNumbers (featureRows l)) b .1
+
+module _ (l : Lent) (k : ℕ) (yes : AllHold (rowAsked l k)) where
   pub row-in-table : k < length (l .entries) / 12
   unfolding rowInside
   row-in-table = ltb-true k (length (l .entries) / 12) (and-true (ltb k (length (l .entries) / 12)) _ (yes .0) .0)
 
-  pub row-ready : Ready (lent [] (l .features) (l .buffer)) (entryRow (l .entries) k)
-  unfolding rowWhole numbersWhole rowInside entryInside entriesAsked every fewFeatures
-  row-ready =
-      let n = length (l .entries) / 12 in
-      let m = length (l .features) / 3 in
+  pub row-ready : tablesWhole l ≡ true → Ready (lent [] (l .features) (l .buffer)) (entryRow (l .entries) k)
+  unfolding entryInside entriesAsked every fewFeatures
+  row-ready whole =
       let r = entryRow (l .entries) k in
-      let numbers = and-true (entryNumbers r) _ (or-right (leb n k) _ (lt-leb n k row-in-table) whole) in
-      let all = and-true (ltb k n) (entryInside l r) (yes .0) .1 in
+      let all = row-inside l whole k (yes .0) in
       let few = leb-true (length (entryOf l r .features)) 255 (and-true (fewFeatures (entryOf l r)) true (yes .1 .1 .1 .0) .0) in
       record {
-        numbers = numbers .0;
-        ids = or-right (ltb m (r .first + r .count)) _ (le-ltb m (r .first + r .count) (own-range l r all)) (numbers .1);
+        numbers = row-numbers l whole k (yes .0);
+        ids = every-rows featureNumbers (featureRow (l .features)) (length (l .features) / 3) (r .first) (r .count) (whole-features l whole) (own-range l r all);
         inside = all;
         short = rw (own-entry l r) (and-true (shortStrings (entryOf l r)) true (yes .1 .0) .0);
         few = omega (arith, few, length-features l r);

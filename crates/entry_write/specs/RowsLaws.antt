@@ -20,7 +20,6 @@ use Rattle.output_ask.specs.CheckedLaws.{accepted, stored, kept}
 use Rattle.handshake.specs.Value.{entryBytes, shortStrings, utf8Strings, fewFeatures, lengthsWithin, entriesAsked}
 use Rattle.handshake.specs.Tables.{Lent, lent, entryRow, entryRows, entriesOf, tablesWhole, entryInside}
 use Rattle.entry_ask.specs.Asked.{entriesSaid}
-use Rattle.entry_whole.specs.WholeLaws.{whole-row}
 use Rattle.entry_ask.specs.RowLaws.{each-row-asked}
 use Rattle.entry_write.specs.Ready.{Ready, EntriesReady}
 use Rattle.entry_write.specs.ReadyLaws.{row-ready}
@@ -65,7 +64,7 @@ said-rows l before out at =
 
 -- each row can be stored
 pub each-row-ready : (l : Lent) (k : ℕ) → k < length (l .entries) / 12 → EntriesReady l → Ready (lent [] (l .features) (l .buffer)) (entryRow (l .entries) k)
-each-row-ready l k h all = row-ready l k (whole-row l k (all .whole)) (each-row-asked l k h (all .inside) (all .asked))
+each-row-ready l k h all = row-ready l k (each-row-asked l k h (all .inside) (all .asked)) (all .whole)
 
 -- what was said of the entries, of the body, and of the place and the room
 module _ (l : Lent) (before : ℕ) (out : List ℕ) (at : ℕ) {entries body r : Written} (e1 : entries ≡ entriesSaid l) (e2 : body ≡ bodySaid before entries)

@@ -3,29 +3,26 @@
 ghost use mathlib.Core.Bool.{_||_, true};
 ghost use mathlib.Core.Path.{_≡_};
 ghost use mathlib.Core.List.{[], _∷_, map, flatMap};
-ghost use Prim.Native.Nat.{_+_, _-_, _*_, _/_, _≤_};
+ghost use Prim.Native.Nat.{_+_, _-_, _/_, _≤_};
 ghost use lib.Dec.{eqb, leb};
 ghost use lib.ListN.{length};
 ghost use Rattle.wire.specs.Bytes.{every};
-ghost use Rattle.wire.specs.Output.{ask, written, outputAfter};
+ghost use Rattle.wire.specs.Output.{outputAfter};
 ghost use Rattle.wire.specs.OutputLaws.{Wrote};
 ghost use Rattle.vlq.specs.Vlq.{vlqBytes};
 ghost use Rattle.vlq.specs.ShortString.{shortStringBytes};
 ghost use Rattle.handshake.specs.Entry.{addressOf};
 ghost use Rattle.handshake.specs.Value.{addressBytes, featureBytes, entryBytes, shortStrings};
-ghost use Rattle.handshake.specs.Tables.{lent, rows, featureRow, entryRow, bytesAt, featureOf, featureNumbers, entryOf, entriesOf, entryNumbers};
-ghost use Rattle.handshake.specs.Writes.{entryAt, rowAsked, entryWritten};
-ghost use Rattle.entry_whole.specs.Whole.{rowWhole};
+ghost use Rattle.handshake.specs.Tables.{lent, rows, featureRow, bytesAt, featureOf, featureNumbers, entryOf, entriesOf, entryNumbers, featureInside};
+ghost use Rattle.handshake.specs.Writes.{entryAt, entryWritten};
 ghost use Rattle.entry_length.specs.Length.{headBytes};
 ghost use Rattle.entry_write.specs.Ready.{Ready, EntriesReady};
 ghost use Rattle.entry_write.specs.Rows.{bodySaid, rowsWritten};
 use entry_ask::ask_entries;
-use entry_ask::ask_row;
+use entry_ask::ask_entry;
 use entry_rows::address_size;
 use entry_rows::entry_at;
 use entry_rows::feature_at;
-use entry_rows::part_at;
-use entry_whole::tables_whole;
 use handshake::EntryRow;
 use handshake::FeatureRow;
 use output_ask::ask_place;
@@ -34,25 +31,6 @@ use vlq_write::write_vlq;
 use wire::Written;
 
 const MAX_BODY_SIZE: usize = 16_388_608;
-
-// The entry in row k. 16 is asked of this row and its feature rows alone.
-pub fn write_row(
-    out: &mut [u8],
-    at: usize,
-    entries: &[u32],
-    features: &[u32],
-    buffer: &[u8],
-    k: usize,
-) -> Written
-    ensures { λ r. ⌜ r ≡ written (ask 16 (rowWhole (lent (now (entries .entry)) (now (features .entry)) (now (buffer .entry))) k) ∷ []) (rowAsked (lent (now (entries .entry)) (now (features .entry)) (now (buffer .entry))) k) (now (out .entry)) at (entryBytes (entryAt (lent (now (entries .entry)) (now (features .entry)) (now (buffer .entry))) k)) ⌝ }
-    ensures { λ r. ⌜ now (out .exit) ≡ outputAfter r (now (out .entry)) at (entryBytes (entryAt (lent (now (entries .entry)) (now (features .entry)) (now (buffer .entry))) k)) ⌝ }
-{
-    let answer = ask_place(out.len(), at, ask_row(entries, features, buffer, k));
-    if let Written::To(_) = answer {
-        put_entry(out, at, features, buffer, entry_at(entries, k));
-    }
-    answer
-}
 
 // The entry in row k. 16 is asked of every row of both tables.
 pub fn write_entry(
@@ -66,10 +44,11 @@ pub fn write_entry(
     ensures { λ r. ⌜ r ≡ entryWritten (lent (now (entries .entry)) (now (features .entry)) (now (buffer .entry))) k (now (out .entry)) at ⌝ }
     ensures { λ r. ⌜ now (out .exit) ≡ outputAfter r (now (out .entry)) at (entryBytes (entryAt (lent (now (entries .entry)) (now (features .entry)) (now (buffer .entry))) k)) ⌝ }
 {
-    if !tables_whole(entries, features, buffer) {
-        return Written::Refused(16);
+    let answer = ask_place(out.len(), at, ask_entry(entries, features, buffer, k));
+    if let Written::To(_) = answer {
+        put_entry(out, at, features, buffer, entry_at(entries, k));
     }
-    write_row(out, at, entries, features, buffer, k)
+    answer
 }
 
 // All entries of a table, one after the other: the end of a body that has `before` bytes before them.
@@ -142,12 +121,13 @@ fn put_entry(out: &mut [u8], at: usize, features: &[u32], buffer: &[u8], e: Entr
 // Stores agent, version and name.
 fn put_head(out: &mut [u8], at: usize, buffer: &[u8], e: EntryRow) -> usize
     requires { ⌜ (entryNumbers e ≡ true) × (shortStrings (entryOf (lent [] [] (now buffer)) e) ≡ true) ⌝ }
+    requires { ⌜ (e .agentat + e .agentlen ≤ length (now buffer)) × (e .nameat + e .namelen ≤ length (now buffer)) ⌝ }
     requires { ⌜ at + length (headBytes (now buffer) e) ≤ length (now out) ⌝ }
     ensures { λ r. ⌜ Wrote (now (out .entry)) at (headBytes (now (buffer .entry)) e) r (now (out .exit)) ⌝ }
 {
-    let a = put_string(out, at, part_at(buffer, e.agentat, e.agentlen));
+    let a = put_string(out, at, part_of(buffer, e.agentat, e.agentlen));
     let b = put_version(out, a, e);
-    put_string(out, b, part_at(buffer, e.nameat, e.namelen))
+    put_string(out, b, part_of(buffer, e.nameat, e.namelen))
 }
 
 fn put_version(out: &mut [u8], at: usize, e: EntryRow) -> usize
@@ -176,7 +156,7 @@ fn put_address(out: &mut [u8], at: usize, buffer: &[u8], e: EntryRow) -> usize
     let a = put_part(
         out,
         at + 2,
-        part_at(buffer, e.addrat, address_size(e.addrlen)),
+        part_of(buffer, e.addrat, address_size(e.addrlen)),
     );
     put_vlq(out, a, e.port as u64)
 }
@@ -184,7 +164,7 @@ fn put_address(out: &mut [u8], at: usize, buffer: &[u8], e: EntryRow) -> usize
 // Stores the features of a row.
 fn put_features(out: &mut [u8], at: usize, features: &[u32], buffer: &[u8], e: EntryRow) -> usize
     requires { ⌜ e .first + e .count ≤ length (now features) / 3 ⌝ }
-    requires { ⌜ every featureNumbers (rows (featureRow (now features)) (e .first) (e .count)) ≡ true ⌝ }
+    requires { ⌜ (every featureNumbers (rows (featureRow (now features)) (e .first) (e .count)) ≡ true) × (every (featureInside (now buffer)) (rows (featureRow (now features)) (e .first) (e .count)) ≡ true) ⌝ }
     requires { ⌜ at + length (flatMap featureBytes (map (featureOf (now buffer)) (rows (featureRow (now features)) (e .first) (e .count)))) ≤ length (now out) ⌝ }
     ensures { λ r. ⌜ Wrote (now (out .entry)) at (flatMap featureBytes (map (featureOf (now (buffer .entry))) (rows (featureRow (now (features .entry))) (e .first) (e .count)))) r (now (out .exit)) ⌝ }
 {
@@ -200,14 +180,23 @@ fn put_features(out: &mut [u8], at: usize, features: &[u32], buffer: &[u8], e: E
 }
 
 fn put_feature(out: &mut [u8], at: usize, buffer: &[u8], f: FeatureRow) -> usize
-    requires { ⌜ featureNumbers f ≡ true ⌝ }
+    requires { ⌜ (featureNumbers f ≡ true) × (f .at + f .len ≤ length (now buffer)) ⌝ }
     requires { ⌜ at + length (featureBytes (featureOf (now buffer) f)) ≤ length (now out) ⌝ }
     ensures { λ r. ⌜ Wrote (now (out .entry)) at (featureBytes (featureOf (now (buffer .entry)) f)) r (now (out .exit)) ⌝ }
 {
-    let body = part_at(buffer, f.at, f.len);
+    let body = part_of(buffer, f.at, f.len);
     out[at] = f.id as u8;
     let a = put_vlq(out, at + 1, body.len() as u64);
     put_part(out, a, body)
+}
+
+// The bytes of the buffer that a row names; all are there.
+fn part_of(buffer: &[u8], at: u32, len: u32) -> &[u8]
+    requires { ⌜ at + len ≤ length (now buffer) ⌝ }
+    ensures { λ r. ⌜ now r ≡ bytesAt (now (buffer .entry)) at len ⌝ }
+{
+    let start = at as usize;
+    &buffer[start..start + len as usize]
 }
 
 // Stores a length byte and the bytes of s.

@@ -7,7 +7,7 @@ use lib.ListN.{length, length-set}
 use borrow.Author.Needs.{needs}
 use Rattle.wire.specs.OutputLaws.{wrote-then, wrote-byte, wrote-length, wrote-two}
 use Rattle.handshake.specs.Tables.{bytesAt}
-use Rattle.entry_write.specs.NumbersLaws.{address-zero, address-some, length-some, kind-byte, all-bytes}
+use Rattle.entry_write.specs.NumbersLaws.{address-zero, address-some, address-within, length-some, kind-byte, all-bytes}
 use Rattle.entry_write.proofs.put_address.Statement.{statement}
 use Rattle.entry_write.proofs.put_address.Tie as tie
 
@@ -48,13 +48,18 @@ slice-write-out-3 c =
     let some = c .before .if1 .left in
     simp length-set (omega (arith, length-some s (a .e) are (c .before .before .before .before .before .pre .0 .0) (c .before .before .before .before .before .pre .0 .1) some))
 
+part-of-requires : tie.Need-part-of-requires
+part-of-requires c κs =
+    let d = c .before .before .before .before .before .before .before in
+    rw (c .address-size .ensures) (address-within (d .args .e) (length (now (d .args .buffer))) (d .pre .0 .1) (c .before .before .before .if1 .left))
+
 put-part-requires : tie.Need-put-part-requires
 put-part-requires c κs =
     let a = c .before .before .before .before .before .before .before .before .args in
     let s = now (a .buffer) in
     let are = all-bytes s (λ i. omega (arith, c .before .before .before .before .before .before .shared-slice-known .given i)) in
     let some = c .before .before .before .before .if1 .left in
-    rw (c .part-at .ensures, c .before .address-size .ensures) (simp length-set (omega (arith, length-some s (a .e) are (c .before .before .before .before .before .before .before .before .pre .0 .0) (c .before .before .before .before .before .before .before .before .pre .0 .1) some)))
+    rw (c .part-of .ensures, c .before .address-size .ensures) (simp length-set (omega (arith, length-some s (a .e) are (c .before .before .before .before .before .before .before .before .pre .0 .0) (c .before .before .before .before .before .before .before .before .pre .0 .1) some)))
 
 put-vlq-requires : tie.Need-put-vlq-requires
 put-vlq-requires c κs =
@@ -62,7 +67,7 @@ put-vlq-requires c κs =
     let s = now (a .buffer) in
     let are = all-bytes s (λ i. omega (arith, c .before .before .before .before .before .before .before .before .before .before .before .shared-slice-known .given i)) in
     let some = c .before .before .before .before .before .before .before .before .before .if1 .left in
-    let w = rw (c .before .before .before .before .before .part-at .ensures, c .before .before .before .before .before .before .address-size .ensures) at (c .before .before .before .before .put-part .ensures) in
+    let w = rw (c .before .before .before .before .before .part-of .ensures, c .before .before .before .before .before .before .address-size .ensures) at (c .before .before .before .before .put-part .ensures) in
     omega (arith, w .end, simp length-set at (wrote-length w), length-some s (a .e) are (c .before .before .before .before .before .before .before .before .before .before .before .before .before .pre .0 .0) (c .before .before .before .before .before .before .before .before .before .before .before .before .before .pre .0 .1) some)
 
 same-length-2 : tie.Need-same-length-2
@@ -74,7 +79,7 @@ returns-2 c =
     let s = now (a .buffer) in
     let are = all-bytes s (λ i. omega (arith, c .before .before .before .before .before .before .before .before .before .before .before .before .before .before .shared-slice-known .given i)) in
     let some = c .before .before .before .before .before .before .before .before .before .before .before .before .if1 .left in
-    let w = rw (c .before .before .before .before .before .before .before .before .part-at .ensures, c .before .before .before .before .before .before .before .before .before .address-size .ensures) at (c .before .before .before .before .before .before .before .put-part .ensures) in
+    let w = rw (c .before .before .before .before .before .before .before .before .part-of .ensures, c .before .before .before .before .before .before .before .before .before .address-size .ensures) at (c .before .before .before .before .before .before .before .put-part .ensures) in
     rw (address-some s (a .e) are (c .before .before .before .before .before .before .before .before .before .before .before .before .before .before .before .before .pre .0 .0) (c .before .before .before .before .before .before .before .before .before .before .before .before .before .before .before .before .pre .0 .1) some)
     (wrote-then (wrote-two (a .out .now) (a .at) 1 (a .e .addrlen)) (wrote-then w (c .before .before .put-vlq .ensures)))
 
@@ -92,7 +97,7 @@ put-address-spec =
     slice-write-out-3
     (λ c. search needs)
     (λ c κs. search needs)
-    (λ c κs. search needs)
+    part-of-requires
     put-part-requires
     (λ c. search needs)
     put-vlq-requires

@@ -9,6 +9,7 @@ use Rattle.handshake.specs.Tables.{lent, inside, entryInside}
 use Rattle.handshake.specs.TablesLaws.{address-part, own-range}
 use Rattle.entry_length.specs.LengthLaws.{entry-parts, length-entry}
 use Rattle.entry_rows.specs.ValueLaws.{own-short}
+use Rattle.entry_write.specs.ReadyLaws.{agent-part, name-part, feature-parts}
 use Rattle.entry_write.proofs.put_entry.Statement.{statement}
 use Rattle.entry_write.proofs.put_entry.Tie as tie
 
@@ -18,7 +19,7 @@ put-head-requires c κs =
     let l = lent [] (now (a .features)) (now (a .buffer)) in
     let ready = c .before .before .before .before .pre .0 in
     let whole = length-entry l (a .e) in
-    ((ready .numbers, own-short l (a .e) ∙ ready .short), omega (arith, whole))
+    ((ready .numbers, own-short l (a .e) ∙ ready .short), ((agent-part l (a .e) (ready .inside), name-part l (a .e) (ready .inside)), omega (arith, whole)))
 
 put-address-requires : tie.Need-put-address-requires
 unfolding entryInside inside
@@ -66,7 +67,7 @@ put-features-requires c κs =
     let whole = length-entry l (a .e) in
     let w = c .before .before .before .before .before .before .before .before .put-head .ensures in
     let v = c .before .before .before .before .put-address .ensures in
-    (own-range l (a .e) (ready .inside), (ready .ids, simp length-set (omega (arith, whole, w .end, wrote-length w, v .end, wrote-length v))))
+    (own-range l (a .e) (ready .inside), ((ready .ids, feature-parts l (a .e) (ready .inside)), simp length-set (omega (arith, whole, w .end, wrote-length w, v .end, wrote-length v))))
 
 same-length : tie.Need-same-length
 same-length c = wrote-length (c .before .before .put-features .ensures) ∙ simp length-set (wrote-length (c .before .before .before .before .before .before .before .put-address .ensures) ∙ wrote-length (c .before .before .before .before .before .before .before .before .before .before .before .put-head .ensures))

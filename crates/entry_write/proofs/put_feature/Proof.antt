@@ -13,7 +13,7 @@ use Rattle.entry_write.proofs.put_feature.Statement.{statement}
 use Rattle.entry_write.proofs.put_feature.Tie as tie
 
 cast-out : tie.Need-cast-out
-cast-out c = omega (arith, id-byte (c .before .before .before .before .args .f) (c .before .before .before .before .pre .0))
+cast-out c = omega (arith, id-byte (c .before .before .before .before .args .f) (c .before .before .before .before .pre .0 .0))
 
 slice-write-out : tie.Need-slice-write-out
 slice-write-out c =
@@ -27,15 +27,15 @@ put-vlq-requires c κs =
     let a = c .before .before .before .before .before .args in
     let s = now (a .buffer) in
     let size = length-feature s (a .f) in
-    rw (c .before .before .part-at .ensures) (simp length-set (omega (arith, size)))
+    rw (c .before .before .part-of .ensures) (simp length-set (omega (arith, size)))
 
 put-part-requires : tie.Need-put-part-requires
 put-part-requires c κs =
     let a = c .before .before .before .before .before .before .before .before .before .args in
     let s = now (a .buffer) in
     let size = length-feature s (a .f) in
-    let w = rw (c .before .before .before .before .before .before .part-at .ensures) at (c .before .before .before .put-vlq .ensures) in
-    rw (c .before .before .before .before .before .before .part-at .ensures) (omega (arith, size, w .end, simp length-set at (wrote-length w)))
+    let w = rw (c .before .before .before .before .before .before .part-of .ensures) at (c .before .before .before .put-vlq .ensures) in
+    rw (c .before .before .before .before .before .before .part-of .ensures) (omega (arith, size, w .end, simp length-set at (wrote-length w)))
 
 same-length : tie.Need-same-length
 same-length c = wrote-length (c .before .before .put-part .ensures) ∙ wrote-length (c .before .before .before .before .before .before .put-vlq .ensures) ∙ simp length-set
@@ -44,7 +44,7 @@ returns : tie.Need-returns
 unfolding featureBytes featureOf
 returns c =
     let a = c .before .before .before .before .before .before .before .before .before .before .before .before .args in
-    wrote-then (wrote-byte (a .out .now) (a .at) (a .f .id)) (wrote-then (rw (c .before .before .before .before .before .before .before .before .before .part-at .ensures) at (c .before .before .before .before .before .before .put-vlq .ensures)) (rw (c .before .before .before .before .before .before .before .before .before .part-at .ensures) at (c .before .before .put-part .ensures)))
+    wrote-then (wrote-byte (a .out .now) (a .at) (a .f .id)) (wrote-then (rw (c .before .before .before .before .before .before .before .before .before .part-of .ensures) at (c .before .before .before .before .before .before .put-vlq .ensures)) (rw (c .before .before .before .before .before .before .before .before .before .part-of .ensures) at (c .before .before .put-part .ensures)))
 
 pub put-feature-spec : {M : Type 1} → statement M
 put-feature-spec =

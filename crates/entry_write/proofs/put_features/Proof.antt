@@ -6,6 +6,7 @@ use Rattle.handshake.specs.Value.{featureBytes}
 use Rattle.handshake.specs.Tables.{featureRow, featureOf, featureNumbers}
 use Rattle.handshake.specs.RowsLaws.{rows-from}
 use Rattle.handshake.specs.PuttingLaws.{Putting, putting-start, putting-passed, putting-room, putting-turn, putting-end}
+use Rattle.entry_write.specs.ReadyLaws.{part-inside}
 use Rattle.entry_write.proofs.put_features.Statement.{statement}
 use Rattle.entry_write.proofs.put_features.Tie as tie
 
@@ -27,7 +28,7 @@ loop-holds c =
     let a = c .before .before .before .before .before .args in
     let e = rows-from (featureRow (now (a .features))) (a .e .first) (a .e .count) in
     let p = c .before .before .before .before .before .pre .1 in
-    (omega arith, putting-start _ _ _ _ _ _ _ (rw e (p .0)) (rw e (p .1)))
+    (omega arith, putting-start _ _ _ _ _ _ _ (rw e (p .0 .0)) (rw e (p .1)))
 
 add-feature-at : tie.Need-add-feature-at Inv-loop μ-loop
 add-feature-at c = omega arith
@@ -37,8 +38,11 @@ feature-at-requires c κs = omega (arith, c .before .before .before .before .bef
 
 put-feature-requires : tie.Need-put-feature-requires Inv-loop μ-loop
 put-feature-requires c κs =
+    let s = c .before .before .before .before .before .before .before .before .before in
     let p = c .before .before .before .loop .inv .1 in
-    rw (c .feature-at .ensures) (putting-passed p (omega arith), putting-room p (omega arith))
+    let k = c .before .before .before .loop .k in
+    let within = part-inside (now (s .args .buffer)) (now (s .args .features)) (s .args .e .first) (s .args .e .count) k (s .pre .1 .0 .1) (omega arith) in
+    rw (c .feature-at .ensures) ((putting-passed p (omega arith), within), putting-room p (omega arith))
 
 add-k : tie.Need-add-k Inv-loop μ-loop
 add-k c = omega arith

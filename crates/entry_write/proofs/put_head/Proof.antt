@@ -16,7 +16,7 @@ put-string-requires c κs =
     let s = now (a .buffer) in
     let short = short-lengths s (a .e) (c .before .before .before .before .pre .0 .1) in
     let head = length-head s (a .e) in
-    rw (c .part-at .ensures) (short .0, omega (arith, head))
+    rw (c .part-of .ensures) (short .0, omega (arith, head))
 
 put-version-requires : tie.Need-put-version-requires
 put-version-requires c κs =
@@ -24,7 +24,7 @@ put-version-requires c κs =
     let s = now (a .buffer) in
     let short = short-lengths s (a .e) (c .before .before .before .before .before .before .before .before .pre .0 .1) in
     let head = length-head s (a .e) in
-    let w = rw (c .before .before .before .before .part-at .ensures) at (c .before .before .before .put-string .ensures) in
+    let w = rw (c .before .before .before .before .part-of .ensures) at (c .before .before .before .put-string .ensures) in
     (c .before .before .before .before .before .before .before .before .pre .0 .0, omega (arith, head, w .end, wrote-length w))
 
 put-string-requires-2 : tie.Need-put-string-requires-2
@@ -33,16 +33,16 @@ put-string-requires-2 c κs =
     let s = now (a .buffer) in
     let short = short-lengths s (a .e) (c .before .before .before .before .before .before .before .before .before .before .before .before .before .pre .0 .1) in
     let head = length-head s (a .e) in
-    let w = rw (c .before .before .before .before .before .before .before .before .before .part-at .ensures) at (c .before .before .before .before .before .before .before .before .put-string .ensures) in
+    let w = rw (c .before .before .before .before .before .before .before .before .before .part-of .ensures) at (c .before .before .before .before .before .before .before .before .put-string .ensures) in
     let v = c .before .before .before .before .put-version .ensures in
-    rw (c .part-at2 .ensures) (short .1, omega (arith, head, w .end, wrote-length w, v .end, wrote-length v))
+    rw (c .part-of2 .ensures) (short .1, omega (arith, head, w .end, wrote-length w, v .end, wrote-length v))
 
 same-length : tie.Need-same-length
 same-length c = wrote-length (c .before .before .put-string2 .ensures) ∙ wrote-length (c .before .before .before .before .before .before .before .put-version .ensures) ∙ wrote-length (c .before .before .before .before .before .before .before .before .before .before .before .put-string .ensures)
 
 returns : tie.Need-returns
 unfolding headBytes
-returns c = wrote-then (rw (c .before .before .before .before .before .before .before .before .before .before .before .before .part-at .ensures) at (c .before .before .before .before .before .before .before .before .before .before .before .put-string .ensures)) (wrote-then (c .before .before .before .before .before .before .before .put-version .ensures) (rw (c .before .before .before .part-at2 .ensures) at (c .before .before .put-string2 .ensures)))
+returns c = wrote-then (rw (c .before .before .before .before .before .before .before .before .before .before .before .before .part-of .ensures) at (c .before .before .before .before .before .before .before .before .before .before .before .put-string .ensures)) (wrote-then (c .before .before .before .before .before .before .before .put-version .ensures) (rw (c .before .before .before .part-of2 .ensures) at (c .before .before .put-string2 .ensures)))
 
 pub put-head-spec : {M : Type 1} → statement M
 put-head-spec =

@@ -1,12 +1,14 @@
 -- `entry_write::put_rows` meets its contract: the rows before k were stored.
 use Prim.Native.Nat.{_-_, _/_}
 use native.Mathlib.Omega.{arith}
+use mathlib.Core.Path.{_∙_}
 use denote.Ref.{now}
 use lib.ListN.{length}
 use borrow.Author.Needs.{needs}
 use Rattle.handshake.specs.Value.{entryBytes}
 use Rattle.handshake.specs.Tables.{lent, entryRow, entryOf, entriesOf, entryInside}
 use Rattle.handshake.specs.PuttingLaws.{Putting, putting-start, putting-room, putting-turn, putting-end}
+use Rattle.entry_rows.specs.Row.{row-there}
 use Rattle.entry_rows.specs.ValueLaws.{own-entry}
 use Rattle.entry_write.specs.RowsLaws.{each-row-ready}
 use Rattle.entry_write.proofs.put_rows.Statement.{statement}
@@ -29,7 +31,8 @@ put-entry-requires c κs =
     let a = s .args in
     let l = lent (now (a .entries)) (now (a .features)) (now (a .buffer)) in
     let k = c .before .before .before .loop .k in
-    rw (c .before .entry-at .ensures)
+    let row = c .before .entry-at .ensures ∙ row-there (l .entries) k (omega arith) in
+    rw row
     (each-row-ready l k (omega arith) (s .pre .0), rw (own-entry l (entryRow (l .entries) k)) (putting-room (c .before .before .before .loop .inv) (omega arith)))
 
 loop-less : tie.Need-loop-less Inv-loop μ-loop
@@ -41,7 +44,8 @@ loop-again c =
     let a = s .args in
     let l = lent (now (a .entries)) (now (a .features)) (now (a .buffer)) in
     let i = c .before .before .before .before .before .before .loop in
-    putting-turn (i .inv) (omega arith) (rw (c .before .before .before .before .entry-at .ensures, own-entry l (entryRow (l .entries) (i .k))) at (c .before .before .put-entry .ensures))
+    let row = c .before .before .before .before .entry-at .ensures ∙ row-there (l .entries) (i .k) (omega arith) in
+    putting-turn (i .inv) (omega arith) (rw (row, own-entry l (entryRow (l .entries) (i .k))) at (c .before .before .put-entry .ensures))
 
 same-length : tie.Need-same-length Inv-loop μ-loop
 same-length c = c .before .loop .inv .writing .long
