@@ -3,17 +3,28 @@ use Prim.Native.Nat.{ℕ, suc, _+_, _≤_, _<_}
 use native.Mathlib.Omega.{arith}
 use mathlib.Core.Bool.{true}
 use mathlib.Core.List.{List, [], _∷_}
+use mathlib.Core.Logic.{⊎-elim}
 use mathlib.Core.Path.{_≡_, refl}
 use lib.ListN.{length, getD}
 use borrow.Author.Tests.{le-leb}
+use Rattle.wire.specs.Numbers.{lt-or-ge}
 use Rattle.wire.specs.UpTo.{UpTo}
 use Rattle.wire.specs.UpToLaws.{upto-next}
 use Rattle.utf8.specs.Utf8.{rows, leadIn, leadOf, utf8From, utf8}
 
--- no byte before k is above m, and neither m nor the next byte is above n
-pub highest-next : (s : List ℕ) (k d m n : ℕ) → UpTo (λ i. getD s i 0 ≤ m) 0 k → m ≤ n → getD s k 0 ≤ n → d ≡ k + 1 → UpTo (λ i. getD s i 0 ≤ n) 0 d
-highest-next s k d m n u h p e =
-    upto-next (λ i. getD s i 0 ≤ n) 0 k d (record { each = λ (i : ℕ) (g : 0 ≤ i) (l : i < k). let q = u .each i g l in omega arith }) p e
+-- a byte more: n is 0 only where m was, and the byte is not above 0x7F
+pub high-next : (s : List ℕ) (a k d m n : ℕ) → (m ≡ 0 → UpTo (λ i. getD s i 0 ≤ 0x7f) a k) → (n ≡ 0 → (m ≡ 0) × (getD s k 0 ≤ 0x7f)) → d ≡ k + 1
+    → n ≡ 0 → UpTo (λ i. getD s i 0 ≤ 0x7f) a d
+high-next s a k d m n u h e z = upto-next (λ i. getD s i 0 ≤ 0x7f) a k d (u (h z .0)) (h z .1) e
+
+-- two ranges with no gap between them
+pub ascii-join : (s : List ℕ) (a b c d : ℕ) → UpTo (λ i. getD s i 0 ≤ 0x7f) a b → UpTo (λ i. getD s i 0 ≤ 0x7f) c d → c ≤ b
+    → UpTo (λ i. getD s i 0 ≤ 0x7f) a d
+ascii-join s a b c d u v h =
+    record {
+      each = λ (i : ℕ) (g : a ≤ i) (l : i < d).
+          ⊎-elim (λ (m : i < b). u .each i g m) (λ (m : b ≤ i). v .each i (omega arith) l) (lt-or-ge i b);
+    }
 
 ascii-from : (bs : List ℕ) (low high : ℕ) → ((i : ℕ) → i < length bs → getD bs i 0 ≤ 0x7f) → utf8From bs 0 low high ≡ true
 unfolding utf8From leadOf leadIn rows
@@ -22,6 +33,6 @@ ascii-from (b ∷ bs) low high h =
     let g : b ≤ 0x7f = h 0 (omega arith) in
     rw (le-leb 0 b (omega arith), le-leb b 0x7f g) (ascii-from bs 0x80 0xbf (λ (i : ℕ) (l : i < length bs). h (suc i) (omega arith)))
 
-pub ascii-utf8 : (bs : List ℕ) (m : ℕ) → UpTo (λ i. getD bs i 0 ≤ m) 0 (length bs) → m ≤ 0x7f → utf8 bs ≡ true
+pub ascii-utf8 : (bs : List ℕ) → UpTo (λ i. getD bs i 0 ≤ 0x7f) 0 (length bs) → utf8 bs ≡ true
 unfolding utf8
-ascii-utf8 bs m u h = ascii-from bs 0x80 0xbf (λ (i : ℕ) (l : i < length bs). let q = u .each i (omega arith) l in omega arith)
+ascii-utf8 bs u = ascii-from bs 0x80 0xbf (λ (i : ℕ) (l : i < length bs). u .each i (omega arith) l)

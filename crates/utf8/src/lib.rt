@@ -1,6 +1,7 @@
 // UTF-8 (RFC 3629), as `String::from_utf8` tests it.
 ghost use mathlib.Core.Path.{_≡_};
-ghost use Prim.Native.Nat.{_≤_};
+ghost use mathlib.Core.Bool.{true};
+ghost use Prim.Native.Nat.{_+_, _≤_, _<_};
 ghost use lib.ListN.{length, getD};
 ghost use Rattle.wire.specs.UpTo.{UpTo};
 ghost use Rattle.utf8.specs.Utf8.{leadOf, utf8};
@@ -32,29 +33,55 @@ pub fn lead_of(b: u8) -> Lead
 pub fn is_utf8(s: &[u8]) -> bool
     ensures { λ r. ⌜ r ≡ utf8 (now (s .entry)) ⌝ }
 {
-    if highest(s) <= 0x7F {
+    if is_ascii(s) {
         return true;
     }
     is_sequence(s)
 }
 
-// A number that no byte of s is above.
-fn highest(s: &[u8]) -> u8
-    ensures { λ r. ⌜ UpTo (λ i. getD (now (s .entry)) i 0 ≤ r) 0 (length (now (s .entry))) ⌝ }
+// "Yes" only where no byte of s is above 0x7F. Asked of eight bytes at a time, the last eight first.
+fn is_ascii(s: &[u8]) -> bool
+    ensures { λ r. ⌜ (r ≡ true → UpTo (λ i. getD (now (s .entry)) i 0 ≤ 0x7f) 0 (length (now (s .entry)))) ⌝ }
+{
+    let n = s.len();
+    if n < 8 {
+        return high_of_few(s) == 0;
+    }
+    if 0 < high_of_eight(s, n - 8) {
+        return false;
+    }
+    let mut at = 0;
+    while at + 8 < n {
+        if 0 < high_of_eight(s, at) {
+            return false;
+        }
+        at += 8;
+    }
+    true
+}
+
+// 0 only where none of the eight bytes from a place on is above 0x7F: each byte above it adds 1.
+fn high_of_eight(s: &[u8], at: usize) -> u8
+    requires { ⌜ at + 8 ≤ length (now s) ⌝ }
+    ensures { λ r. ⌜ (r ≡ 0 → UpTo (λ i. getD (now (s .entry)) i 0 ≤ 0x7f) at (at + 8)) ⌝ }
 {
     let mut m: u8 = 0;
-    let mut at = 0;
-    while at < s.len() {
-        m = higher_of(m, s[at]);
-        at += 1;
+    for i in 0..8 {
+        m += s[at + i] / 0x80;
     }
     m
 }
 
-fn higher_of(a: u8, b: u8) -> u8
-    ensures { λ r. ⌜ (a ≤ r) × (b ≤ r) ⌝ }
+// The same of all bytes of s, fewer than eight.
+fn high_of_few(s: &[u8]) -> u8
+    requires { ⌜ length (now s) < 8 ⌝ }
+    ensures { λ r. ⌜ (r ≡ 0 → UpTo (λ i. getD (now (s .entry)) i 0 ≤ 0x7f) 0 (length (now (s .entry)))) ⌝ }
 {
-    if a < b { b } else { a }
+    let mut m: u8 = 0;
+    for i in 0..s.len() {
+        m += s[i] / 0x80;
+    }
+    m
 }
 
 // Is s a sequence of lead bytes with their followers?
