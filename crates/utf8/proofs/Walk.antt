@@ -1,4 +1,4 @@
--- Where the loop of is_utf8 stands, and one law for each way through a turn and out of it.
+-- Where the loop of is_sequence stands, and one law for each way through a turn and out of it.
 -- The idea: what utf8 says of all the bytes is what utf8From says of the rest, with the followers that are still due.
 use Prim.Native.Nat.{ℕ, suc, _+_, _-_, _≤_, _<_}
 use mathlib.Core.Bool.{false}

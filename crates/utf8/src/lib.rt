@@ -1,6 +1,5 @@
 // UTF-8 (RFC 3629), as `String::from_utf8` tests it.
 ghost use mathlib.Core.Path.{_≡_};
-ghost use mathlib.Core.Bool.{true};
 ghost use Prim.Native.Nat.{_+_, _≤_, _<_};
 ghost use lib.ListN.{length, getD};
 ghost use Rattle.wire.specs.UpTo.{UpTo};
@@ -33,31 +32,30 @@ pub fn lead_of(b: u8) -> Lead
 pub fn is_utf8(s: &[u8]) -> bool
     ensures { λ r. ⌜ r ≡ utf8 (now (s .entry)) ⌝ }
 {
-    if is_ascii(s) {
+    if high_of(s) == 0 {
         return true;
     }
     is_sequence(s)
 }
 
-// "Yes" only where no byte of s is above 0x7F. Asked of eight bytes at a time, the last eight first.
-fn is_ascii(s: &[u8]) -> bool
-    ensures { λ r. ⌜ (r ≡ true → UpTo (λ i. getD (now (s .entry)) i 0 ≤ 0x7f) 0 (length (now (s .entry)))) ⌝ }
+// 0 only where no byte of s is above 0x7F. Counted by eight bytes at a time, the last eight first.
+fn high_of(s: &[u8]) -> u8
+    ensures { λ r. ⌜ (r ≡ 0 → UpTo (λ i. getD (now (s .entry)) i 0 ≤ 0x7f) 0 (length (now (s .entry)))) ⌝ }
 {
     let n = s.len();
     if n < 8 {
-        return high_of_few(s) == 0;
+        return high_of_few(s);
     }
-    if 0 < high_of_eight(s, n - 8) {
-        return false;
-    }
+    let mut m = high_of_eight(s, n - 8);
     let mut at = 0;
     while at + 8 < n {
-        if 0 < high_of_eight(s, at) {
-            return false;
+        if 0 < m {
+            return m;
         }
+        m = high_of_eight(s, at);
         at += 8;
     }
-    true
+    m
 }
 
 // 0 only where none of the eight bytes from a place on is above 0x7F: each byte above it adds 1.
