@@ -14,7 +14,7 @@ use Rattle.handshake.specs.declared.FeatureRow.{FeatureRow}
 use Rattle.handshake.specs.declared.EntryRow.{EntryRow}
 use Rattle.handshake.specs.Value.{shortStrings, utf8Strings, featureBytes, entryBytes}
 use Rattle.handshake.specs.Tables.{lent, ownRows, bytesAt, featureOf, entryOf, inside, featureInside, entryInside}
-use Rattle.handshake.specs.TablesLaws.{length-bytesAt}
+use Rattle.handshake.specs.TablesLaws.{length-bytesAt, parts-inside}
 use Rattle.entry_rows.specs.ValueLaws.{own-utf8, few-count}
 use Rattle.entry_questions.specs.Questions.{featureHolds, rowHolds, rowYes}
 use Rattle.entry_questions.specs.QuestionsLaws.{features-lengths}
@@ -100,21 +100,18 @@ module _ (features buffer : List ℕ) (r : EntryRow) where
       let s = and-true (rowHolds Short features buffer r) _ (i .1) in
       let u = and-true (rowHolds Utf8 features buffer r) _ (s .1) in
       let k = and-true (rowHolds Count features buffer r) (rowHolds Lengths features buffer r) (u .1) in
-      let a = and-true (leb (r .agentat + r .agentlen) (length buffer)) _ (i .0) in
-      let b = and-true (leb (r .nameat + r .namelen) (length buffer)) _ (a .1) in
-      let d = and-true (eqb (r .addrlen) 0 || leb (r .addrat + (r .addrlen - 4)) (length buffer)) _ (b .1) in
-      let e = and-true (leb (r .first + r .count) (length features / 3)) _ (d .1) in
+      let p = parts-inside l r (i .0) in
       let t = and-true (leb (length (bytesAt buffer (r .agentat) (r .agentlen))) 255) _ (s .0) in
       let fit : Fits (length features / 3) (length buffer) r = record {
-        agent = a .0;
-        name = b .0;
-        address = d .0;
-        range = e .0;
-        shortAgent = sym (short-part buffer (r .agentat) (r .agentlen) (a .0)) ∙ t .0;
-        shortName = sym (short-part buffer (r .nameat) (r .namelen) (b .0)) ∙ t .1;
+        agent = p .agent;
+        name = p .name;
+        address = p .address;
+        range = p .range;
+        shortAgent = sym (short-part buffer (r .agentat) (r .agentlen) (p .agent)) ∙ t .0;
+        shortName = sym (short-part buffer (r .nameat) (r .namelen) (p .name)) ∙ t .1;
         few = sym (few-count l r) ∙ k .0;
       } in
-      let within = every-each (featureInside buffer) _ (e .1) in
+      let within = every-each (featureInside buffer) _ (p .features) in
       let lengths = every-each (featureHolds Lengths buffer) _ (features-lengths l r ∙ k .1) in
       both-true (of-fits (length features / 3) (length buffer) r fit)
       (both-true (own-utf8 l r ∙ u .0) (each-every (featureFits (length buffer)) (each-both (feature-parts buffer) within lengths)))

@@ -13,7 +13,7 @@ use Rattle.wire.specs.OutputLaws.{AllHold}
 use Rattle.handshake.specs.declared.EntryRow.{EntryRow}
 use Rattle.handshake.specs.Value.{shortStrings, fewFeatures, entriesAsked}
 use Rattle.handshake.specs.Tables.{Lent, lent, rows, featureRow, entryRow, entryRows, featureRows, ownRows, entryOf, wholeRows, featureNumbers, entryNumbers, tablesWhole, inside, featureInside, entryInside}
-use Rattle.handshake.specs.TablesLaws.{every-row, row-numbers, row-inside, own-range}
+use Rattle.handshake.specs.TablesLaws.{every-row, row-numbers, row-inside, whole-features, parts-inside, own-range}
 use Rattle.handshake.specs.RowsLaws.{every-rows}
 use Rattle.handshake.specs.Writes.{rowInside, rowAsked}
 use Rattle.entry_rows.specs.ValueLaws.{own-entry, length-features}
@@ -23,22 +23,12 @@ use Rattle.entry_write.specs.Ready.{Ready}
 
 module _ (l : Lent) (r : EntryRow) (parts : entryInside l r ≡ true) where
   pub agent-part : r .agentat + r .agentlen ≤ length (l .buffer)
-  unfolding entryInside inside
-  agent-part = leb-true (r .agentat + r .agentlen) (length (l .buffer)) (and-true (inside (l .buffer) (r .agentat) (r .agentlen)) _ parts .0)
+  unfolding inside
+  agent-part = leb-true (r .agentat + r .agentlen) (length (l .buffer)) (parts-inside l r parts .agent)
 
   pub name-part : r .nameat + r .namelen ≤ length (l .buffer)
-  unfolding entryInside inside
-  name-part =
-      let a = and-true (inside (l .buffer) (r .agentat) (r .agentlen)) _ parts .1 in
-      leb-true (r .nameat + r .namelen) (length (l .buffer)) (and-true (inside (l .buffer) (r .nameat) (r .namelen)) _ a .0)
-
-  pub feature-parts : every (featureInside (l .buffer)) (ownRows l r) ≡ true
-  unfolding entryInside
-  feature-parts =
-      let a = and-true (inside (l .buffer) (r .agentat) (r .agentlen)) _ parts .1 in
-      let b = and-true (inside (l .buffer) (r .nameat) (r .namelen)) _ a .1 in
-      let d = and-true (eqb (r .addrlen) 0 || inside (l .buffer) (r .addrat) (r .addrlen - 4)) _ b .1 in
-      and-true (leb (r .first + r .count) (length (l .features) / 3)) (every (featureInside (l .buffer)) (ownRows l r)) d .1
+  unfolding inside
+  name-part = leb-true (r .nameat + r .namelen) (length (l .buffer)) (parts-inside l r parts .name)
 
 -- the body of one of n feature rows from i on
 pub part-inside : (buffer t : List ℕ) (i n k : ℕ) → every (featureInside buffer) (rows (featureRow t) i n) ≡ true → k < n
@@ -49,13 +39,6 @@ part-inside buffer t i n k h l =
     leb-true (f .at + f .len) (length buffer) (every-row (featureInside buffer) (featureRow t) n i (i + k) h (omega arith) (omega arith))
 
 -- ---- row k
-
-whole-features : (l : Lent) → tablesWhole l ≡ true → every featureNumbers (featureRows l) ≡ true
-unfolding tablesWhole
-whole-features l whole =
-    let a = and-true (wholeRows 12 (l .entries)) _ whole .1 in
-    let b = and-true (wholeRows 3 (l .features)) _ a .1 in
-    and-true (every entryNumbers (entryRows l)) (every featureNumbers (featureRows l)) b .1
 
 module _ (l : Lent) (k : ℕ) (yes : AllHold (rowAsked l k)) where
   pub row-in-table : k < length (l .entries) / 12

@@ -15,7 +15,7 @@ use Rattle.wire.specs.Numbers.{lt-or-ge}
 use Rattle.handshake.specs.Value.{AddressTyped}
 use Rattle.handshake.specs.AddressLaws.{addressOf-typed}
 use Rattle.handshake.specs.declared.EntryRow.{EntryRow}
-use Rattle.handshake.specs.Tables.{rows, entryRow, Lent, entryRows, ownRows, bytesAt, entryOf, wholeRows, entryNumbers, tablesWhole, inside, featureInside, entryInside}
+use Rattle.handshake.specs.Tables.{rows, entryRow, Lent, entryRows, featureRows, ownRows, bytesAt, entryOf, wholeRows, featureNumbers, entryNumbers, tablesWhole, inside, featureInside, entryInside}
 use Rattle.handshake.specs.Writes.{rowInside}
 
 -- a part inside the buffer
@@ -35,12 +35,18 @@ every-row test f (suc n) i k h g l =
     (lt-or-ge i k)
 
 module _ (l : Lent) (whole : tablesWhole l ≡ true) where
-  pub whole-entries : every entryNumbers (entryRows l) ≡ true
+  whole-rows : (every entryNumbers (entryRows l) ≡ true) × (every featureNumbers (featureRows l) ≡ true)
   unfolding tablesWhole
-  whole-entries =
+  whole-rows =
       let a = and-true (wholeRows 12 (l .entries)) _ whole .1 in
       let b = and-true (wholeRows 3 (l .features)) _ a .1 in
-      and-true (every entryNumbers (entryRows l)) _ b .0
+      and-true (every entryNumbers (entryRows l)) (every featureNumbers (featureRows l)) b
+
+  pub whole-entries : every entryNumbers (entryRows l) ≡ true
+  whole-entries = whole-rows .0
+
+  pub whole-features : every featureNumbers (featureRows l) ≡ true
+  whole-features = whole-rows .1
 
   -- the numbers and the parts of the row that a handshake is written from
   pub row-numbers : (k : ℕ) → rowInside l k ≡ true → entryNumbers (entryRow (l .entries) k) ≡ true
@@ -81,21 +87,24 @@ numbers-of r h =
     }
 
 -- what 12 says of a row's parts
-module _ (l : Lent) (r : EntryRow) (parts : entryInside l r ≡ true) where
-  pub address-part : (eqb (r .addrlen) 0 || inside (l .buffer) (r .addrat) (r .addrlen - 4)) ≡ true
-  unfolding entryInside
-  address-part =
-      let a = and-true (inside (l .buffer) (r .agentat) (r .agentlen)) _ parts .1 in
-      let b = and-true (inside (l .buffer) (r .nameat) (r .namelen)) _ a .1 in
-      and-true (eqb (r .addrlen) 0 || inside (l .buffer) (r .addrat) (r .addrlen - 4)) _ b .0
+pub record PartsInside (l : Lent) (r : EntryRow) : Type 0 where
+  pub agent : inside (l .buffer) (r .agentat) (r .agentlen) ≡ true
+  pub name : inside (l .buffer) (r .nameat) (r .namelen) ≡ true
+  pub address : (eqb (r .addrlen) 0 || inside (l .buffer) (r .addrat) (r .addrlen - 4)) ≡ true
+  pub range : leb (r .first + r .count) (length (l .features) / 3) ≡ true
+  pub features : every (featureInside (l .buffer)) (ownRows l r) ≡ true
 
-  pub own-range : r .first + r .count ≤ length (l .features) / 3
-  unfolding entryInside
-  own-range =
-      let a = and-true (inside (l .buffer) (r .agentat) (r .agentlen)) _ parts .1 in
-      let b = and-true (inside (l .buffer) (r .nameat) (r .namelen)) _ a .1 in
-      let d = and-true (eqb (r .addrlen) 0 || inside (l .buffer) (r .addrat) (r .addrlen - 4)) _ b .1 in
-      leb-true (r .first + r .count) (length (l .features) / 3) (and-true (leb (r .first + r .count) (length (l .features) / 3)) (every (featureInside (l .buffer)) (ownRows l r)) d .0)
+pub parts-inside : (l : Lent) (r : EntryRow) → entryInside l r ≡ true → PartsInside l r
+unfolding entryInside
+parts-inside l r h =
+    let a = and-true (inside (l .buffer) (r .agentat) (r .agentlen)) _ h in
+    let b = and-true (inside (l .buffer) (r .nameat) (r .namelen)) _ (a .1) in
+    let d = and-true (eqb (r .addrlen) 0 || inside (l .buffer) (r .addrat) (r .addrlen - 4)) _ (b .1) in
+    let e = and-true (leb (r .first + r .count) (length (l .features) / 3)) (every (featureInside (l .buffer)) (ownRows l r)) (d .1) in
+    record { agent = a .0; name = b .0; address = d .0; range = e .0; features = e .1 }
+
+pub own-range : (l : Lent) (r : EntryRow) → entryInside l r ≡ true → r .first + r .count ≤ length (l .features) / 3
+own-range l r h = leb-true (r .first + r .count) (length (l .features) / 3) (parts-inside l r h .range)
 
 -- the address of a row
 module _ (l : Lent) (r : EntryRow) (numbers : entryNumbers r ≡ true) (parts : entryInside l r ≡ true) where
@@ -105,7 +114,7 @@ module _ (l : Lent) (r : EntryRow) (numbers : entryNumbers r ≡ true) (parts : 
       ⊎-elim
       (λ x. let e : r .addrlen ≡ 0 = eqb-true (r .addrlen) 0 x in rw e)
       (λ x. length-bytesAt (l .buffer) (r .addrat) (r .addrlen - 4) x)
-      (or-true (eqb (r .addrlen) 0) _ (address-part l r parts))
+      (or-true (eqb (r .addrlen) 0) _ (parts-inside l r parts .address))
 
   pub row-address : every isByte (l .buffer) ≡ true → AddressTyped (entryOf l r .address)
   unfolding entryOf

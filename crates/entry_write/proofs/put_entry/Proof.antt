@@ -6,10 +6,10 @@ use denote.Ref.{now}
 use lib.ListN.{length-set}
 use Rattle.wire.specs.OutputLaws.{wrote-then, wrote-byte, wrote-length}
 use Rattle.handshake.specs.Tables.{lent, inside, entryInside}
-use Rattle.handshake.specs.TablesLaws.{address-part, own-range}
+use Rattle.handshake.specs.TablesLaws.{parts-inside, own-range}
 use Rattle.entry_length.specs.LengthLaws.{entry-parts, length-entry}
 use Rattle.entry_rows.specs.ValueLaws.{own-short}
-use Rattle.entry_write.specs.ReadyLaws.{agent-part, name-part, feature-parts}
+use Rattle.entry_write.specs.ReadyLaws.{agent-part, name-part}
 use Rattle.entry_write.proofs.put_entry.Statement.{statement}
 use Rattle.entry_write.proofs.put_entry.Tie as tie
 
@@ -29,7 +29,7 @@ put-address-requires c κs =
     let ready = c .before .before .before .before .before .before .before .before .pre .0 in
     let whole = length-entry l (a .e) in
     let w = c .before .before .before .put-head .ensures in
-    ((ready .numbers, address-part l (a .e) (ready .inside)), omega (arith, whole, w .end, wrote-length w))
+    ((ready .numbers, parts-inside l (a .e) (ready .inside) .address), omega (arith, whole, w .end, wrote-length w))
 
 cast-out : tie.Need-cast-out
 cast-out c =
@@ -67,7 +67,7 @@ put-features-requires c κs =
     let whole = length-entry l (a .e) in
     let w = c .before .before .before .before .before .before .before .before .put-head .ensures in
     let v = c .before .before .before .before .put-address .ensures in
-    (own-range l (a .e) (ready .inside), ((ready .ids, feature-parts l (a .e) (ready .inside)), simp length-set (omega (arith, whole, w .end, wrote-length w, v .end, wrote-length v))))
+    (own-range l (a .e) (ready .inside), ((ready .ids, parts-inside l (a .e) (ready .inside) .features), simp length-set (omega (arith, whole, w .end, wrote-length w, v .end, wrote-length v))))
 
 same-length : tie.Need-same-length
 same-length c = wrote-length (c .before .before .put-features .ensures) ∙ simp length-set (wrote-length (c .before .before .before .before .before .before .before .put-address .ensures) ∙ wrote-length (c .before .before .before .before .before .before .before .before .before .before .before .put-head .ensures))

@@ -28,6 +28,9 @@ pub struct Row {
 /// Where the Rust allocates and neither side hashes, ours may take half of its time.
 pub const HALF: f64 = 0.5;
 
+/// Elsewhere, as much as the Rust.
+pub const WHOLE: f64 = 1.0;
+
 impl Row {
     pub fn new(name: &'static str, sides: Vec<Side>) -> Row {
         Row { name, mib: None, sides }
@@ -61,7 +64,7 @@ impl Row {
         };
         let ours = Side::new("ours", None, ours);
         let others = [
-            Side::new("the Rust", Some(1.0), portable),
+            Side::new("the Rust", Some(WHOLE), portable),
             Side::new("over blake2b_simd", None, rust),
         ];
         Row::new(name, [ours].into_iter().chain(others).collect())
