@@ -19,12 +19,10 @@ use entry_questions::About;
 use entry_questions::row_holds;
 use entry_rows::entry_at;
 use entry_whole::tables_whole;
+use wire::MAX_BODY_SIZE;
 use wire::Written;
 
-// The most that a length may be.
-const LIMIT: usize = 16_388_608;
-
-// What is said of all entries of the table: the refusal number, or how many bytes they are written as, LIMIT + 1 where they are more.
+// What is said of all entries of the table: the refusal number, or how many bytes they are written as, MAX_BODY_SIZE + 1 where they are more.
 pub fn ask_entries(entries: &[u32], features: &[u32], buffer: &[u8]) -> Written
     ensures { λ r. ⌜ r ≡ entriesSaid (lent (now (entries .entry)) (now (features .entry)) (now (buffer .entry))) ⌝ }
 {
@@ -63,7 +61,7 @@ fn ask_rows(entries: &[u32], features: &[u32], buffer: &[u8]) -> Written
         if own == 0 {
             return Written::Refused(first_no(entries, features, buffer, 0, n));
         }
-        m = min_of(m + own, LIMIT + 1);
+        m = min_of(m + own, MAX_BODY_SIZE + 1);
         k += 1;
     }
     Written::To(m)

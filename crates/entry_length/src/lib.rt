@@ -17,9 +17,7 @@ use entry_rows::feature_at;
 use handshake::EntryRow;
 use handshake::FeatureRow;
 use vlq_write::vlq_len;
-
-// The most that a length may be.
-const LIMIT: usize = 16_388_608;
+use wire::MAX_BODY_SIZE;
 
 // Of the entry of a row; 0 where a question after 16 is answered "no". No entry has fewer than 6 bytes.
 pub fn row_len(features: &[u32], buffer: &[u8], e: EntryRow) -> usize
@@ -94,7 +92,7 @@ fn features_len(before: usize, features: &[u32], buffer: &[u8], first: usize, co
 fn feature_fits(len: usize, f: FeatureRow) -> bool
     ensures { λ r. ⌜ r ≡ featureFits len f ⌝ }
 {
-    if LIMIT < f.len as usize {
+    if MAX_BODY_SIZE < f.len as usize {
         return false;
     }
     is_inside(len, f.at, f.len)

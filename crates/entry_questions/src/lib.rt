@@ -13,9 +13,7 @@ use entry_rows::feature_at;
 use entry_rows::part_at;
 use handshake::EntryRow;
 use handshake::FeatureRow;
-
-// The most that a length may be.
-const LIMIT: usize = 16_388_608;
+use wire::MAX_BODY_SIZE;
 
 // A question of a row.
 pub enum About {
@@ -127,7 +125,7 @@ fn feature_holds(about: About, buffer: &[u8], f: FeatureRow) -> bool
         About::Inside => is_inside(buffer.len(), f.at, f.len),
         About::Lengths => {
             let body = part_at(buffer, f.at, f.len);
-            body.len() <= LIMIT
+            body.len() <= MAX_BODY_SIZE
         }
         About::Short => true,
         About::Utf8 => true,

@@ -28,9 +28,8 @@ use handshake::FeatureRow;
 use output_ask::ask_place;
 use part_write::write_part;
 use vlq_write::write_vlq;
+use wire::MAX_BODY_SIZE;
 use wire::Written;
-
-const MAX_BODY_SIZE: usize = 16_388_608;
 
 // The entry in row k. 16 is asked of every row of both tables.
 pub fn write_entry(

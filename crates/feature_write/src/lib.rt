@@ -11,6 +11,8 @@ ghost use Rattle.types.specs.declared.Network.{Network};
 ghost use Rattle.handshake.specs.Value.{featureBytes};
 ghost use Rattle.handshake.specs.Writes.{nipopow};
 ghost use Rattle.feature_write.specs.Features.{modeFeatureOf, sessionFeatureOf};
+use handshake::FEATURE_MODE;
+use handshake::FEATURE_SESSION;
 use output_ask::ask_place;
 use part_write::write_part;
 use types::Network;
@@ -20,10 +22,6 @@ use vlq_write::write_vlq;
 use wire::Written;
 use zigzag::zigzag_encode;
 use zigzag::zigzag_encode_i64;
-
-const FEATURE_MODE: u8 = 16;
-
-const FEATURE_SESSION: u8 = 3;
 
 // ---- Mode
 

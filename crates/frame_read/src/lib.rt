@@ -7,15 +7,12 @@ ghost use Rattle.wire.specs.Reader.{mapAnswer};
 ghost use Rattle.vlq.specs.Vlq.{limit};
 ghost use Rattle.frame.specs.Frame.{body, frame};
 ghost use Rattle.frame_read.specs.Answers.{streamPartOf, frameOf, bodyAnswer, frameAnswer};
+use frame::MIN_HEADER_SIZE;
 use types::Network;
 use types::StreamPlace;
-
-// Magic (4), code (1) and body length (4).
-const MIN_HEADER_SIZE: usize = 9;
+use wire::MAX_BODY_SIZE;
 
 const CHECK_SIZE: usize = 4;
-
-const MAX_BODY_SIZE: usize = 16_388_608;
 
 // Consecutive bytes of the stream: where they start, and how many they are.
 pub struct StreamPart {

@@ -11,16 +11,11 @@ ghost use Rattle.frame.specs.Frame.{frameBytes};
 ghost use Rattle.frame.specs.Writes.{frameWritten};
 ghost use Rattle.frame_write.specs.Asked.{frameLength, frameWrittenFor};
 ghost use Rattle.frame_write.specs.FrameWriteLaws.{headBytes};
+use frame::HEADER_SIZE;
+use frame::MIN_HEADER_SIZE;
 use types::Network;
+use wire::MAX_BODY_SIZE;
 use wire::Written;
-
-// Magic (4), code (1) and body length (4).
-const HEADER_SIZE: usize = 9;
-
-// Where in a frame its body stands, unless it is empty.
-const BODY_START: usize = 13;
-
-const MAX_BODY_SIZE: usize = 16_388_608;
 
 // A frame with this code and body.
 pub fn encode(out: &mut [u8], at: usize, network: Network, code: u8, body: &[u8]) -> Written
@@ -68,7 +63,11 @@ fn frame_len(n: usize) -> usize
     requires { ⌜ n ≤ limit ⌝ }
     ensures { λ r. ⌜ r ≡ frameLength n ⌝ }
 {
-    if 0 < n { BODY_START + n } else { HEADER_SIZE }
+    if 0 < n {
+        HEADER_SIZE + n
+    } else {
+        MIN_HEADER_SIZE
+    }
 }
 
 // Stores a frame and gives the place after it.
@@ -77,7 +76,7 @@ fn put_body(out: &mut [u8], at: usize, network: Network, code: u8, body: &[u8]) 
     requires { ⌜ at + frameLength (length (now body)) ≤ length (now out) ⌝ }
     ensures { λ r. ⌜ Wrote (now (out .entry)) at (frameBytes network code (now (body .entry))) r (now (out .exit)) ⌝ }
 {
-    part_write::write_part(out, at + BODY_START, body);
+    part_write::write_part(out, at + HEADER_SIZE, body);
     put_frame(out, at, network, code, body.len())
 }
 
@@ -90,7 +89,7 @@ fn put_frame(out: &mut [u8], at: usize, network: Network, code: u8, n: usize) ->
     if n == 0 {
         return put_head(out, at, network, code, n);
     }
-    let start = at + BODY_START;
+    let start = at + HEADER_SIZE;
     let check = blake2b_hash::check(&out[start..start + n]);
     let end = put_head(out, at, network, code, n);
     put_four(out, end, check) + n

@@ -1,5 +1,12 @@
 // Entries and handshakes: their definitions and laws, in specs/. Readers stand in address_read, handshake_read and handshake_verdict, writers in
 // entry_write, handshake_write and handshake_build.
+
+pub const FEATURE_MODE: u8 = 16;
+
+pub const FEATURE_SESSION: u8 = 3;
+
+pub const FEATURE_REST_API: u8 = 4;
+
 // A writer gets lists as tables of u32 beside a lent buffer; these are the rows.
 
 // A feature: its id, and the place and length of its body in the buffer.

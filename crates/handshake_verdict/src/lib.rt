@@ -7,6 +7,8 @@ ghost use Rattle.handshake.specs.Verdict.{validatePeer, urlOf};
 ghost use Rattle.handshake_read.specs.Parts.{features};
 ghost use Rattle.handshake_verdict.specs.Answers.{firstIn, firstOf, handshakeVerdict, entryUrl, partIfAny, verdictOf};
 ghost use Rattle.handshake_verdict.specs.Answers.{found, orThis, foundIn, Inside, firstAnswer, verdictAnswer, url, urlAnswer};
+use handshake::FEATURE_REST_API;
+use handshake::FEATURE_SESSION;
 use handshake_read::Feature;
 use handshake_read::FeatureRead;
 use handshake_read::HeadRead;
@@ -83,10 +85,6 @@ pub fn rest_api_url(s: &[u8], c: Cursor) -> UrlRead
         HeadRead::Refused(m) => UrlRead::Refused(m),
     }
 }
-
-const FEATURE_SESSION: u8 = 3;
-
-const FEATURE_REST_API: u8 = 4;
 
 // A feature count byte, and the first of the features with an id.
 fn read_first(s: &[u8], c: Cursor, id: u8) -> FirstRead

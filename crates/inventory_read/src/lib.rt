@@ -10,15 +10,13 @@ ghost use Rattle.messages.specs.Message.{total as totalOf};
 ghost use Rattle.inventory_read.specs.Parts.{items, idAt, payloadAt};
 ghost use Rattle.inventory_read.specs.Answers.{inventoryIn, idOf, payloadOf, payloadSum};
 ghost use Rattle.inventory_read.specs.Answers.{inventoryAnswer, headerAnswer, countAnswer, idAnswer, payloadAnswer, sumAnswer, payloadAtAnswer};
+use messages::ID_SIZE;
+use messages::MAX_INV_OBJECTS;
 use types::BodyPlace;
 use vlq::ByteRead;
 use vlq::Cursor;
 use vlq::PartRead;
 use vlq::VlqRead;
-
-const MAX_INV_OBJECTS: usize = 400;
-
-const ID_SIZE: usize = 32;
 
 // The ids or payloads of a body: its type byte, how many there are, and the place of the first.
 pub struct Inventory {

@@ -14,19 +14,13 @@ ghost use Rattle.handshake.specs.Tables.{bytesAt};
 ghost use Rattle.messages.specs.Value.{idsBytes};
 ghost use Rattle.messages.specs.Writes.{idsOf, writeModifierRequest, writeInv, valueOf, messageBytes, messageWritten};
 ghost use Rattle.inventory_write.specs.Asked.{idsInside, idsWrittenFor};
+use frame::HEADER_SIZE;
+use messages::ID_SIZE;
+use messages::INV;
+use messages::MAX_INV_OBJECTS;
+use messages::MODIFIER_REQUEST;
 use types::Network;
 use wire::Written;
-
-const MODIFIER_REQUEST: u8 = 22;
-
-const INV: u8 = 55;
-
-const MAX_INV_OBJECTS: usize = 400;
-
-const ID_SIZE: usize = 32;
-
-// Where in a frame its body stands, unless it is empty.
-const BODY_START: usize = 13;
 
 // ModifierRequest: a type byte and the ids whose places in the buffer are given.
 pub fn write_modifier_request(
@@ -131,7 +125,7 @@ fn put_ids(
     requires { ⌜ at + frameLength (length (idsBytes kind (idsOf (now ids) (now buffer)))) ≤ length (now out) ⌝ }
     ensures { λ r. ⌜ now (out .exit) ≡ put (now (out .entry)) at (frameBytes network code (idsBytes kind (idsOf (now (ids .entry)) (now (buffer .entry))))) ⌝ }
 {
-    let start = at + BODY_START;
+    let start = at + HEADER_SIZE;
     let end = put_body(out, start, kind, ids, buffer);
     frame_write::close_frame(out, at, network, code, end - start);
 }

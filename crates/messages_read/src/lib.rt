@@ -16,22 +16,16 @@ use handshake_read::PeerSpec;
 use inventory_read::CountRead;
 use inventory_read::Inventory;
 use inventory_read::InventoryRead;
+use messages::GET_PEERS;
+use messages::INV;
+use messages::MODIFIER_REQUEST;
+use messages::MODIFIER_RESPONSE;
+use messages::PEERS;
+use messages::SYNC_INFO;
 use types::Address;
 use types::BodyPlace;
 use types::Network;
 use vlq::Cursor;
-
-const GET_PEERS: u8 = 1;
-
-const PEERS: u8 = 2;
-
-const MODIFIER_REQUEST: u8 = 22;
-
-const MODIFIER_RESPONSE: u8 = 33;
-
-const INV: u8 = 55;
-
-const SYNC_INFO: u8 = 65;
 
 // The entries of a Peers body: how many there are, how many have a bogus address, and the place of the first.
 pub struct Peers {

@@ -5,22 +5,15 @@ ghost use Rattle.wire.specs.Output.{outputAfter};
 ghost use Rattle.messages.specs.Value.{unknownCode};
 ghost use Rattle.messages.specs.Writes.{writeGetPeers, writeSyncInfo, writeUnknown, valueOf, messageBytes, messageWritten};
 ghost use Rattle.messages_write.specs.Asked.{unknownWrittenFor};
+use messages::GET_PEERS;
+use messages::INV;
+use messages::MODIFIER_REQUEST;
+use messages::MODIFIER_RESPONSE;
+use messages::PEERS;
+use messages::SYNC_INFO;
 use types::Network;
+use wire::MAX_BODY_SIZE;
 use wire::Written;
-
-const GET_PEERS: u8 = 1;
-
-const PEERS: u8 = 2;
-
-const MODIFIER_REQUEST: u8 = 22;
-
-const MODIFIER_RESPONSE: u8 = 33;
-
-const INV: u8 = 55;
-
-const SYNC_INFO: u8 = 65;
-
-const MAX_BODY_SIZE: usize = 16_388_608;
 
 // GetPeers, which has no body.
 pub fn write_get_peers(out: &mut [u8], at: usize, network: Network) -> Written

@@ -10,15 +10,11 @@ ghost use Rattle.handshake.specs.Tables.{lent};
 ghost use Rattle.entry_write.specs.Rows.{rowsWritten};
 ghost use Rattle.messages.specs.Writes.{writePeers, valueOf, messageBytes, messageWritten};
 ghost use Rattle.peers_write.specs.Asked.{peersBytes, countSaid, peersSaid, peersStart};
+use frame::HEADER_SIZE;
+use messages::PEERS;
 use types::Network;
+use wire::MAX_BODY_SIZE;
 use wire::Written;
-
-const PEERS: u8 = 2;
-
-const MAX_BODY_SIZE: usize = 16_388_608;
-
-// Where in a frame its body stands, unless it is empty.
-const BODY_START: usize = 13;
 
 // The entries of a table, at most cap of them.
 pub fn write_peers(
@@ -49,7 +45,7 @@ fn starts(len: usize, at: usize, cap: usize, count: usize) -> bool
     if len < at {
         return false;
     }
-    if len - at < BODY_START + vlq_write::vlq_len(count as u64) {
+    if len - at < HEADER_SIZE + vlq_write::vlq_len(count as u64) {
         return false;
     }
     count <= cap
@@ -70,7 +66,7 @@ fn write_frame(
 {
     let count = (entries.len() / 12) as u64;
     let before = vlq_write::vlq_len(count);
-    let start = at + BODY_START;
+    let start = at + HEADER_SIZE;
     let answer = entry_write::write_rows(out, start + before, before, entries, features, buffer);
     if let Written::To(end) = answer {
         vlq_write::write_vlq(out, start, count);

@@ -17,20 +17,14 @@ ghost use Rattle.messages.specs.Value.{payloadBytes};
 ghost use Rattle.messages.specs.Writes.{payloadRow, payloadRows, payloadOf, payloadInside, writeModifierResponse, valueOf, messageBytes, messageWritten};
 ghost use Rattle.response_write.specs.Asked.{payloadsOf, rowWithin, responseBytes, responseWrittenFor};
 ghost use Rattle.response_write.specs.ResponseLaws.{rowLength, rowsLength};
+use frame::HEADER_SIZE;
+use messages::ID_SIZE;
+use messages::MAX_INV_OBJECTS;
+use messages::MODIFIER_RESPONSE;
 use messages::PayloadRow;
 use types::Network;
+use wire::MAX_BODY_SIZE;
 use wire::Written;
-
-const MODIFIER_RESPONSE: u8 = 33;
-
-const MAX_BODY_SIZE: usize = 16_388_608;
-
-const MAX_INV_OBJECTS: usize = 400;
-
-const ID_SIZE: usize = 32;
-
-// Where in a frame its body stands, unless it is empty.
-const BODY_START: usize = 13;
 
 // A type byte and the payloads whose rows are given: the place of an id, and the place and length of its bytes in the buffer.
 pub fn write_modifier_response(
@@ -174,7 +168,7 @@ fn put_response(
     requires { ⌜ at + frameLength (length (responseBytes kind (now payloads) (now buffer))) ≤ length (now out) ⌝ }
     ensures { λ r. ⌜ now (out .exit) ≡ put (now (out .entry)) at (frameBytes network 33 (responseBytes kind (now (payloads .entry)) (now (buffer .entry)))) ⌝ }
 {
-    let start = at + BODY_START;
+    let start = at + HEADER_SIZE;
     let end = put_body(out, start, kind, payloads, buffer);
     frame_write::close_frame(out, at, network, MODIFIER_RESPONSE, end - start);
 }
