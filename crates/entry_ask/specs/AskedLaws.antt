@@ -1,8 +1,7 @@
 -- Laws of what is said of one row and of all: the questions row by row are those of the values; where each is answered "yes" for every row, none
 -- refuses, and otherwise one does. And the place and the room beside a row's questions.
 use Prim.Native.Nat.{ℕ, _+_, _/_, _≤_, _<_, min}
-use native.Mathlib.Omega.{arith}
-use mathlib.Core.Bool.{Bool, true, false, cond, _&&_}
+use mathlib.Core.Bool.{Bool, true, false, _&&_}
 use mathlib.Core.List.{List, [], _∷_, flatMap}
 use mathlib.Core.Path.{_≡_, refl, sym, ap, _∙_}
 use lib.ListN.{length}

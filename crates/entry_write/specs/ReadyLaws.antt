@@ -1,10 +1,10 @@
 -- What is known of a row once its questions are answered "yes".
 use Prim.Native.Nat.{ℕ, _+_, _-_, _/_, _≤_, _<_}
 use native.Mathlib.Omega.{arith}
-use mathlib.Core.Bool.{true, _||_}
+use mathlib.Core.Bool.{true}
 use mathlib.Core.List.{List, []}
 use mathlib.Core.Path.{_≡_}
-use lib.Dec.{eqb, leb, ltb}
+use lib.Dec.{ltb}
 use lib.ListN.{length}
 use borrow.Author.Tests.{leb-true, ltb-true}
 use Rattle.wire.specs.Bytes.{every}
@@ -12,7 +12,7 @@ use Rattle.wire.specs.BytesLaws.{and-true}
 use Rattle.wire.specs.OutputLaws.{AllHold}
 use Rattle.handshake.specs.declared.EntryRow.{EntryRow}
 use Rattle.handshake.specs.Value.{shortStrings, fewFeatures, entriesAsked}
-use Rattle.handshake.specs.Tables.{Lent, lent, rows, featureRow, entryRow, entryRows, featureRows, ownRows, entryOf, wholeRows, featureNumbers, entryNumbers, tablesWhole, inside, featureInside, entryInside}
+use Rattle.handshake.specs.Tables.{Lent, lent, rows, featureRow, entryRow, entryOf, featureNumbers, tablesWhole, inside, featureInside, entryInside}
 use Rattle.handshake.specs.TablesLaws.{every-row, row-numbers, row-inside, whole-features, parts-inside, own-range}
 use Rattle.handshake.specs.RowsLaws.{every-rows}
 use Rattle.handshake.specs.Writes.{rowInside, rowAsked}

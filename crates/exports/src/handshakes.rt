@@ -5,7 +5,7 @@ ghost use Rattle.handshake.specs.Entry.{feature, entry, handshake};
 ghost use Rattle.handshake.specs.Verdict.{validatePeer};
 ghost use Rattle.handshake_read.specs.Parts.{featureAt};
 ghost use Rattle.handshake_read.specs.Answers.{featureOf, peerSpecOf, handshakeOf};
-ghost use Rattle.handshake_verdict.specs.Answers.{handshakeVerdict, entryUrl, url};
+ghost use Rattle.handshake_verdict.specs.Answers.{handshakeVerdict, entryUrl};
 ghost use Rattle.export_arrays.specs.Networks.{networkOf};
 ghost use Rattle.export_arrays.specs.Entries.{handshakeNext, entryNext, featureNext, sizeOnly, urlNext};
 ghost use Rattle.exports.specs.Results.{numberOf, arrayAfter, valueNext};

@@ -1,7 +1,7 @@
 -- Entries and handshakes as they are read (document 01, "Entries and handshakes"): the layouts field by field in byte order.
 -- Laws stand in `EntryLaws`; what the code gives of a reading stands in `Answers`.
 use Prim.Native.Nat.{ℕ, _+_, _-_, _%_}
-use mathlib.Core.Bool.{Bool, cond}
+use mathlib.Core.Bool.{cond}
 use mathlib.Core.List.{List}
 use lib.Dec.{eqb}
 use lib.ListN.{getD, take, drop}

@@ -3,8 +3,7 @@ use Prim.Native.Nat.{ℕ}
 use mathlib.Core.Bool.{Bool, true, false}
 use mathlib.Core.List.{List, [], _∷_, map}
 use mathlib.Core.Path.{_≡_, refl}
-use lib.IntN.{ℤ, pos, negsuc, natAbs}
-use lib.Signed.{nonNeg}
+use lib.IntN.{ℤ, pos, negsuc}
 use Rattle.types.specs.declared.Network.{Network}
 use Rattle.types.specs.declared.Network.the-variants.{Mainnet, Testnet}
 use Rattle.types.specs.declared.ProxyMode.{ProxyMode}

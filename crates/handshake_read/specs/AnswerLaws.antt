@@ -1,7 +1,7 @@
 -- What the readers of an entry answer, from tests on numbers and from what their fields answered.
 use Prim.Native.Nat.{ℕ, _+_, _≤_, _<_}
 use mathlib.Core.List.{List}
-use mathlib.Core.Path.{_≡_, refl}
+use mathlib.Core.Path.{_≡_}
 use lib.ListN.{length, getD}
 use Rattle.wire.specs.Reader.{got, refused}
 use Rattle.wire.specs.ReaderLaws.{field-got, field-missing, field-outside}

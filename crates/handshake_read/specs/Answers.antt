@@ -2,8 +2,7 @@
 use Prim.Native.Nat.{ℕ}
 use mathlib.Core.List.{List}
 use lib.ListN.{length}
-use Rattle.wire.specs.Reader.{Answer, got, refused, Segment, partOf}
-use Rattle.wire.specs.declared.Part.{Part}
+use Rattle.wire.specs.Reader.{Answer, got, refused, partOf}
 use Rattle.types.specs.declared.Version.{Version}
 use Rattle.handshake.specs.Entry.{EntryFeature, Entry, EntryHandshake}
 use Rattle.handshake_read.specs.Parts.{EntryHead, EntryFeatures}

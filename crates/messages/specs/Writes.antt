@@ -4,7 +4,7 @@ use mathlib.Core.Bool.{Bool, true, _&&_}
 use mathlib.Core.List.{List, [], _∷_, map}
 use lib.ListN.{length, getD}
 use Rattle.wire.specs.Bytes.{every}
-use Rattle.wire.specs.Output.{Question, ask, written}
+use Rattle.wire.specs.Output.{ask, written}
 use Rattle.wire.specs.declared.Written.{Written}
 use Rattle.types.specs.declared.Network.{Network}
 use Rattle.frame.specs.Frame.{frameBytes}

@@ -1,6 +1,6 @@
 -- The order of a message writer's questions, computed: the place, the ids inside, the count, Unknown's code, room. One lemma covers the table.
 use Prim.Native.Nat.{ℕ}
-use mathlib.Core.List.{List, [], _∷_, _++_, flatMap}
+use mathlib.Core.List.{List, [], _∷_, flatMap}
 use mathlib.Core.Path.{_≡_, refl}
 use lib.ListN.{replicate}
 use Rattle.wire.specs.Bytes.{bigEndianBytes, every}

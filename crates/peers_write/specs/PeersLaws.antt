@@ -12,7 +12,7 @@ use Rattle.wire.specs.Bytes.{every}
 use Rattle.wire.specs.BytesLaws.{and-true}
 use Rattle.wire.specs.Numbers.{lt-or-ge}
 use Rattle.wire.specs.declared.Written.{Written}
-use Rattle.wire.specs.declared.Written.the-variants.{To, Refused}
+use Rattle.wire.specs.declared.Written.the-variants.{To}
 use Rattle.wire.specs.Output.{put, ask, asked, written, outputAfter}
 use Rattle.wire.specs.OutputLaws.{Wrote, Accepted, length-put, wrote-checked, written-accepted}
 use Rattle.wire.specs.StandingLaws.{after-put, put-behind}

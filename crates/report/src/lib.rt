@@ -1,10 +1,8 @@
 // The lines of a session's report (document 01, "At the edges"), each stored from the first byte of a lent line on.
 ghost use mathlib.Core.Path.{_≡_};
-ghost use mathlib.Core.List.{_++_};
 ghost use Prim.Native.Nat.{_+_, _≤_};
 ghost use lib.ListN.{length};
 ghost use Rattle.wire.specs.Output.{put};
-ghost use Rattle.wire.specs.OutputLaws.{Wrote};
 ghost use Rattle.walk.specs.Session.{sessionStep, sessionReading};
 ghost use Rattle.walk_read.specs.Steps.{stepOf};
 ghost use Rattle.report_lines.specs.StepLines.{lineOf};

@@ -1,5 +1,4 @@
 // The line of each step of a session (document 01, "At the edges"), stored from the first byte of a lent line on.
-ghost use mathlib.Core.Path.{_≡_};
 ghost use Prim.Native.Nat.{_≤_};
 ghost use Rattle.wire.specs.OutputLaws.{Wrote};
 ghost use Rattle.report_lines.specs.StepLines.{handshakeItemLine, messageItemLine, stopItemLine, lineOf};

@@ -1,10 +1,9 @@
 -- The loop over a VLQ's first nine bytes keeps the sum of the groups so far and the weight of the next one.
 -- What is still to be read, added at that weight, is what the whole VLQ is read to.
 use Prim.Native.Nat.{ℕ, zero, suc, _+_, _-_, _*_, _%_, _^_, _<_, _≤_}
-use native.Mathlib.Nat.{pow-suc, pow-le-pow-right, mul-le-mul-right, mod-eq-of-lt, mul-assoc, mul-comm, add-assoc, add-mul}
+use native.Mathlib.Nat.{pow-suc, pow-le-pow-right, mul-le-mul-right, mod-eq-of-lt, mul-assoc, mul-comm, add-mul}
 use native.Mathlib.Numerals.{add-one}
 use native.Mathlib.Omega.{arith}
-use mathlib.Core.Bool.{Bool, true, false, cond}
 use mathlib.Core.List.{List}
 use mathlib.Core.Path.{_≡_, refl, ap, sym, _∙_}
 use lib.ListN.{length, getD}

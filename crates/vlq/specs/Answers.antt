@@ -2,7 +2,6 @@
 use Prim.Native.Nat.{ℕ}
 use Rattle.wire.specs.Reader.{Answer, got, refused}
 use Rattle.wire.specs.declared.Part.{Part}
-use Rattle.vlq.specs.declared.Cursor.{Cursor}
 use Rattle.vlq.specs.declared.ByteRead.{ByteRead}
 use Rattle.vlq.specs.declared.ByteRead.the-variants as ByteReads
 use Rattle.vlq.specs.declared.VlqRead.{VlqRead}

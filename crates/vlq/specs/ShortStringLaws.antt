@@ -3,11 +3,10 @@ use Prim.Native.Nat.{ℕ, _+_, _-_, _≤_, _<_}
 use native.Mathlib.Omega.{arith}
 use mathlib.Core.Bool.{Bool, true, false, cond}
 use mathlib.Core.List.{List, [], _∷_}
-use mathlib.Core.Path.{_≡_, refl, ap, sym, _∙_}
+use mathlib.Core.Path.{_≡_, ap, _∙_}
 use lib.Dec.{T}
 use lib.ListN.{length, take, drop}
-use Rattle.wire.specs.declared.Part.{Part}
-use Rattle.wire.specs.Reader.{got, refused, Reader, andThen, guard, byte, Segment, part, partOf, mapAnswer}
+use Rattle.wire.specs.Reader.{got, refused, part, partOf, mapAnswer}
 use Rattle.wire.specs.ReaderLaws.{part-got, part-missing, part-outside, length-part}
 use Rattle.wire.specs.Stable.{Stable}
 use Rattle.wire.specs.StableLaws.{stable-then, stable-guard, stable-byte, stable-part}

@@ -1,9 +1,9 @@
 -- VLQs (document 01, "VLQ, zigzag, short strings"): how one is read, and the bytes of one. Laws stand in `VlqLaws`.
 use Prim.Native.Nat.{ℕ, zero, suc, _+_, _*_, _/_, _%_, _^_}
-use mathlib.Core.Bool.{Bool, true, false, cond}
+use mathlib.Core.Bool.{true, false, cond}
 use mathlib.Core.List.{List, [], _∷_}
 use lib.Dec.{ltb, leb}
-use Rattle.wire.specs.Reader.{Answer, Reader, pure, andThen, refuse, guard, byte}
+use Rattle.wire.specs.Reader.{Reader, pure, andThen, refuse, guard, byte}
 
 -- groups of 7 bits, lowest first; bit 0x80 means another byte follows
 -- Does it end within n bytes? 2

@@ -2,15 +2,15 @@
 use Prim.Native.Nat.{ℕ, zero, suc, _+_, _-_, _*_, _/_, _%_, _^_, _≤_, _<_}
 use native.Mathlib.Nat.{pow-suc}
 use native.Mathlib.Omega.{arith}
-use mathlib.Core.Bool.{Bool, true, false, cond}
-use mathlib.Core.List.{List, [], _∷_, _++_}
+use mathlib.Core.Bool.{Bool, true}
+use mathlib.Core.List.{List, [], _∷_}
 use mathlib.Core.Logic.{⊎-elim}
 use mathlib.Core.Path.{_≡_, refl, ap, sym, _∙_}
 use lib.Dec.{T, ltb, leb}
 use lib.ListN.{length, getD}
-use borrow.Author.Tests.{lt-ltb, le-ltb, le-leb, lt-leb}
+use borrow.Author.Tests.{lt-ltb, le-ltb, le-leb}
 use Rattle.wire.specs.Numbers.{lt-or-ge}
-use Rattle.wire.specs.Reader.{Answer, got, refused, Reader, bind, pure, andThen, refuse, guard, byte}
+use Rattle.wire.specs.Reader.{Answer, got, refused, bind, byte}
 use Rattle.wire.specs.AnswerLaws.{no-answer}
 use Rattle.wire.specs.ReaderLaws.{byte-got, byte-missing, byte-outside}
 use Rattle.wire.specs.Stable.{Stable, AtLeast}

@@ -10,7 +10,7 @@ use Rattle.handshake_read.specs.Answers.{handshakeOf}
 use Rattle.messages.specs.Message.{Message}
 use Rattle.messages_read.specs.Answers.{messageOf}
 use Rattle.walk.specs.Walk as Walk
-use Rattle.walk.specs.Walk.{Item, item, cleanEnd, stop, outside}
+use Rattle.walk.specs.Walk.{item, cleanEnd, stop, outside}
 use Rattle.walk.specs.Session.{Fields, handshakeFields, messageFields, Verdict, peerVerdict, peersVerdict, noVerdict, Content}
 use Rattle.walk_read.specs.declared.Layer.{Layer}
 use Rattle.walk_read.specs.declared.Layer.the-variants as Layers

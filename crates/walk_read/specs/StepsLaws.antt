@@ -25,7 +25,7 @@ use Rattle.walk.specs.Session.{Content, handshakeItem, messageItem, frameItem, 
 use Rattle.walk_read.specs.declared.StepRead.{StepRead}
 use Rattle.walk_read.specs.declared.StepRead.the-variants as StepReads
 use Rattle.walk_read.specs.declared.Layer.the-variants as Layers
-use Rattle.walk_read.specs.Steps.{streamPlace, bodyIn, itemOf, stepOf, openedStep}
+use Rattle.walk_read.specs.Steps.{streamPlace, itemOf, stepOf, openedStep}
 
 -- ---- the handshake
 

@@ -1,7 +1,7 @@
 -- How bytes are written into a lent output. A writer asks its questions in the order of document 01, "Questions": the first one answered "no"
 -- gives the refusal number and the output stays as it was; otherwise the bytes are stored from the place on.
 use Prim.Native.Nat.{ℕ, _+_}
-use mathlib.Core.Bool.{Bool, true, false, cond}
+use mathlib.Core.Bool.{Bool, cond}
 use mathlib.Core.List.{List, [], _∷_, _++_}
 use lib.Dec.{leb}
 use lib.ListN.{length, set}

@@ -1,6 +1,6 @@
 -- Laws of `put`: one write after another is one write; where there is room, the bytes stand in the output and every other byte is as it was.
 -- Then those of `written` and `outputAfter`: when a writer accepts, and what its caller knows then.
-use Prim.Native.Nat.{ℕ, zero, suc, _+_, _-_, _≤_, _<_}
+use Prim.Native.Nat.{ℕ, suc, _+_, _-_, _≤_, _<_}
 use native.Mathlib.Nat.{add-zero}
 use native.Mathlib.Numerals.{add-one}
 use native.Mathlib.Omega.{arith}
@@ -9,8 +9,8 @@ use mathlib.Core.List.{List, [], _∷_, _++_, append-assoc}
 use mathlib.Core.Path.{_≡_, refl, sym, ap, _∙_}
 use borrow.Author.Tests.{le-leb, lt-leb, leb-true}
 use lib.Dec.{leb}
-use lib.ListN.{length, getD, take, drop, set, length-set, length-append, length-take, length-drop}
-use lib.Seq.{drop-cons, sets, sets-eq, take-at, drop-at, drop-drop, length-take-le, take-append-seam}
+use lib.ListN.{length, take, drop, set, length-set, length-append}
+use lib.Seq.{sets, sets-eq, take-at, drop-at, length-take-le, take-append-seam}
 use Rattle.wire.specs.declared.Written.{Written}
 use Rattle.wire.specs.declared.Written.the-variants.{To, Refused}
 use Rattle.wire.specs.Output.{put, Question, ask, asked, written, outputAfter}

@@ -1,7 +1,7 @@
 -- How bytes are read. A reader takes the bytes and a place; it gives a value and the next place, or a refusal number of document 01, "Questions".
 -- Each format is put together from the readers below, field by field in byte order. Only `field` looks at the bytes and their length.
 use Prim.Native.Nat.{ℕ, zero, suc, _+_}
-use mathlib.Core.Bool.{Bool, true, false, cond}
+use mathlib.Core.Bool.{Bool, cond}
 use mathlib.Core.List.{List, [], _∷_, _++_}
 use lib.Dec.{leb}
 use lib.ListN.{length, getD, take, drop}

@@ -1,16 +1,14 @@
 -- What a field answers, from tests on numbers; answers seen through a function; and the law of a loop that takes the turns of a `fold` one by one.
-use Prim.Native.Nat.{ℕ, zero, suc, _+_, _-_, _<_, _≤_}
+use Prim.Native.Nat.{ℕ, suc, _+_, _-_, _<_, _≤_}
 use native.Mathlib.Omega.{arith}
 use native.Mathlib.Nat.{sub-zero}
-use mathlib.Core.Bool.{Bool, true, false}
 use mathlib.Core.List.{List}
 use mathlib.Core.Logic.{_⊎_, inl, inr}
 use mathlib.Core.Path.{_≡_, refl, ap, sym, _∙_}
 use lib.ListN.{length, getD, take, drop, length-take, length-drop}
 use borrow.Author.Tests.{le-leb, lt-leb}
-use Rattle.wire.specs.declared.Part.{Part}
 use Rattle.wire.specs.Numbers.{lt-or-ge}
-use Rattle.wire.specs.Reader.{Answer, got, refused, Reader, bind, field, byte, Segment, part, partOf, mapAnswer, fold, andThen, pure}
+use Rattle.wire.specs.Reader.{Answer, got, refused, Reader, field, byte, Segment, part, partOf, mapAnswer, fold}
 use Rattle.wire.specs.AnswerLaws.{no-answer}
 
 module _ {A : Type 0} (m n : ℕ) (v : List ℕ → ℕ → A) (s : List ℕ) (at : ℕ) where

@@ -1,14 +1,13 @@
 -- Reading back, proved for each reader of `Reader` and for their composition; and that what was put into an output stands there.
-use Prim.Native.Nat.{ℕ, zero, suc, _+_, _≤_, _<_}
+use Prim.Native.Nat.{ℕ, suc, _+_, _≤_, _<_}
 use native.Mathlib.Nat.{add-zero}
-use native.Mathlib.Numerals.{add-one}
 use native.Mathlib.Omega.{arith}
-use mathlib.Core.Bool.{Bool, true, false}
-use mathlib.Core.List.{List, [], _∷_, _++_, append-assoc, append-nil}
+use mathlib.Core.Bool.{Bool, true}
+use mathlib.Core.List.{List, [], _∷_, _++_, append-nil}
 use mathlib.Core.Path.{_≡_, refl, ap, sym, _∙_}
 use lib.ListN.{length, getD, take, drop, length-append}
 use lib.Seq.{drop-cons, drop-drop, take-add, take-take, take-append-seam, drop-append-seam, take-length}
-use Rattle.wire.specs.Reader.{Answer, got, refused, Reader, pure, andThen, place, guard, byte, Segment, part}
+use Rattle.wire.specs.Reader.{got, Reader, pure, andThen, place, guard, byte, Segment, part}
 use Rattle.wire.specs.ReaderLaws.{byte-got, part-got}
 use Rattle.wire.specs.ReadsBack.{StandsAt, ReadsBack}
 use Rattle.wire.specs.Output.{put}

@@ -1,6 +1,5 @@
 -- Two calls for the halves, each with four words. Assumes nothing.
 use mathlib.Core.Path.{_∙_}
-use native.Mathlib.Omega.{arith}
 use Rattle.blake2b_compress.specs.Parts.{halfDiagonals}
 use Rattle.blake2b_compress.proofs.Chain.{words-halves}
 use Rattle.blake2b_compress.proofs.PartsLaws.{diagonals-halves}

@@ -1,6 +1,6 @@
 -- `entry_ask::ask_rows` meets its contract. The loop has counted the bytes of the rows before k, up to the limit and one more; every question is
 -- answered "yes" for each of them.
-use Prim.Native.Nat.{ℕ, _+_, _-_, _/_, _≤_, min}
+use Prim.Native.Nat.{_+_, _-_, _/_, _≤_, min}
 use native.Mathlib.Nat.{sub-zero}
 use native.Mathlib.Omega.{arith}
 use mathlib.Core.List.{[], map, flatMap}

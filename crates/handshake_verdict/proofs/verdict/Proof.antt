@@ -2,7 +2,6 @@
 use mathlib.Core.Path.{ap, sym, _∙_}
 use lib.ListN.{take, drop}
 use Rattle.wire.specs.Bytes.{sameBytes}
-use native.Mathlib.Omega.{arith}
 use denote.Ref.{now}
 use mathlib.Core.Bool.{true, false}
 use Rattle.handshake_verdict.proofs.VerdictLaws.{below-min, verdict-low, verdict-none, verdict-short, verdict-magic}

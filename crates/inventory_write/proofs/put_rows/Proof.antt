@@ -1,5 +1,5 @@
 -- `inventory_write::put_rows` meets its contract: the rows before i were stored.
-use Prim.Native.Nat.{_+_, _-_}
+use Prim.Native.Nat.{_-_}
 use native.Mathlib.Omega.{arith}
 use denote.Ref.{now}
 use lib.ListN.{length}

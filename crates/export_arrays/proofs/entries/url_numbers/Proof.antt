@@ -1,6 +1,5 @@
 -- `export_arrays::entries::url_numbers` meets its contract, case by case.
 use borrow.Author.Needs.{needs}
-use Rattle.handshake_verdict.specs.Answers.{url}
 use Rattle.export_arrays.specs.Entries.{urlNext}
 use Rattle.export_arrays.proofs.entries.url_numbers.Statement.{statement}
 use Rattle.export_arrays.proofs.entries.url_numbers.Tie as tie
