@@ -1,11 +1,9 @@
 -- A row of an entry table as it is read: outside the table a row of zeros.
-use Prim.Native.Nat.{ℕ, _/_, _<_}
+use Prim.Native.Nat.{ℕ, _/_}
 use mathlib.Core.Bool.{cond}
 use mathlib.Core.List.{List}
-use mathlib.Core.Path.{_≡_}
 use lib.Dec.{ltb}
 use lib.ListN.{length}
-use borrow.Author.Tests.{lt-ltb}
 use Rattle.handshake.specs.declared.EntryRow.{EntryRow}
 use Rattle.handshake.specs.Tables.{entryRow}
 
@@ -28,7 +26,3 @@ zeros =
 
 unfoldable pub rowOrZeros : List ℕ → ℕ → EntryRow
 rowOrZeros t k = cond (ltb k (length t / 12)) (entryRow t k) zeros
-
-pub row-there : (t : List ℕ) (k : ℕ) → k < length t / 12 → rowOrZeros t k ≡ entryRow t k
-unfolding rowOrZeros
-row-there t k h = rw (lt-ltb k (length t / 12) h)

@@ -1,13 +1,20 @@
--- The value of an entry's row: known by the feature table and the buffer alone, with as many features as the row says.
-use Prim.Native.Nat.{ℕ}
-use mathlib.Core.List.{[]}
+-- A row that is in its table is read as it stands there. The value of a row: known by the feature table and the buffer alone, with as many features
+-- as the row says.
+use Prim.Native.Nat.{ℕ, _/_, _<_}
+use mathlib.Core.List.{List, []}
 use mathlib.Core.Path.{_≡_, refl, ap, _∙_}
 use lib.Dec.{leb}
 use lib.ListN.{length, length-map}
+use borrow.Author.Tests.{lt-ltb}
 use Rattle.handshake.specs.declared.EntryRow.{EntryRow}
 use Rattle.handshake.specs.Value.{shortStrings, utf8Strings, fewFeatures}
-use Rattle.handshake.specs.Tables.{Lent, lent, featureRow, ownRows, featureOf, entryOf, entryInside}
+use Rattle.handshake.specs.Tables.{Lent, lent, entryRow, featureRow, ownRows, featureOf, entryOf, entryInside}
 use Rattle.handshake.specs.RowsLaws.{length-rows}
+use Rattle.entry_rows.specs.Row.{rowOrZeros}
+
+pub row-there : (t : List ℕ) (k : ℕ) → k < length t / 12 → rowOrZeros t k ≡ entryRow t k
+unfolding rowOrZeros
+row-there t k h = rw (lt-ltb k (length t / 12) h)
 
 pub own-entry : (l : Lent) (r : EntryRow) → entryOf (lent [] (l .features) (l .buffer)) r ≡ entryOf l r
 unfolding entryOf

@@ -1,6 +1,7 @@
 // Message bodies: their definitions and laws, in specs/. Readers stand in inventory_read and messages_read, writers in messages_write,
 // inventory_write, response_write and peers_write.
 
+// Codes of messages.
 pub const GET_PEERS: u8 = 1;
 
 pub const PEERS: u8 = 2;

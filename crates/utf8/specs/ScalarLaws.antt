@@ -6,7 +6,7 @@ use mathlib.Core.Logic.{_↔_}
 use mathlib.Core.Path.{_≡_, sym, ap, _∙_}
 use Rattle.utf8.specs.Utf8.{utf8}
 use Rattle.utf8.specs.Scalars.{EncodingOf}
-use Rattle.utf8.specs.ScalarSteps.{accepted, encoded, only-one}
+use Rattle.utf8.specs.ScalarStepLaws.{accepted, encoded, only-one}
 
 pub record OneEncoding (bs : List ℕ) : Type 0 where
   pub scalars : List ℕ

@@ -3,7 +3,7 @@ ghost use mathlib.Core.Path.{_≡_};
 ghost use lib.ListN.{take, drop};
 ghost use Rattle.wire.specs.Bytes.{sameBytes};
 
-// The most bytes that a frame's body may have, and the most that a length may say (frame.rs; 01).
+// The most bytes that a body may have, and the most that a length may say (transport/frame.rs, document 01).
 pub const MAX_BODY_SIZE: usize = 16_388_608;
 
 // Consecutive bytes: where they start, and how many they are.

@@ -7,7 +7,7 @@ use borrow.Author.Tests.{not-true, not-false}
 use Rattle.wire.specs.OutputLaws.{asked-all}
 use Rattle.wire.specs.declared.Written.the-variants.{To}
 use Rattle.handshake.specs.Tables.{lent, rows, entryRow, entryOf}
-use Rattle.entry_rows.specs.Row.{row-there}
+use Rattle.entry_rows.specs.ValueLaws.{row-there}
 use Rattle.entry_questions.specs.Questions.{rowYes}
 use Rattle.entry_length.specs.Length.{rowLength}
 use Rattle.entry_length.specs.FitsLaws.{none-written, some-written}

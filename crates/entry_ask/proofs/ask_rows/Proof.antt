@@ -14,8 +14,7 @@ use Rattle.vlq.specs.Vlq.{limit}
 use Rattle.handshake.specs.Value.{entryBytes}
 use Rattle.handshake.specs.Tables.{lent, rows, entryRow, entryRows, entryOf, entriesOf}
 use Rattle.handshake.specs.RowsLaws.{Passed, passed-start, passed-next, passed-not, passed-end, bytes-next, bytes-none}
-use Rattle.entry_rows.specs.Row.{row-there}
-use Rattle.entry_rows.specs.ValueLaws.{own-entry}
+use Rattle.entry_rows.specs.ValueLaws.{row-there, own-entry}
 use Rattle.entry_questions.specs.Questions.{rowYes}
 use Rattle.entry_length.specs.Length.{rowLength}
 use Rattle.entry_length.specs.FitsLaws.{none-written, some-written}

@@ -8,7 +8,7 @@ use borrow.Author.Tests.{not-true, not-false}
 use Rattle.wire.specs.Bytes.{every}
 use Rattle.handshake.specs.Tables.{entryRow}
 use Rattle.handshake.specs.RowsLaws.{rows-from, Passed, passed-start, passed-next, passed-not, passed-end}
-use Rattle.entry_rows.specs.Row.{row-there}
+use Rattle.entry_rows.specs.ValueLaws.{row-there}
 use Rattle.entry_questions.specs.Questions.{rowHolds}
 use Rattle.entry_ask.proofs.every_row.Statement.{statement}
 use Rattle.entry_ask.proofs.every_row.Tie as tie

@@ -3,7 +3,8 @@ use mathlib.Core.Path.{sym, _∙_}
 use denote.Ref.{now}
 use borrow.Author.Needs.{needs}
 use borrow.Author.Tests.{le-ltb}
-use Rattle.entry_rows.specs.Row.{rowOrZeros, row-there}
+use Rattle.entry_rows.specs.Row.{rowOrZeros}
+use Rattle.entry_rows.specs.ValueLaws.{row-there}
 use Rattle.entry_rows.proofs.entry_at.Statement.{statement}
 use Rattle.entry_rows.proofs.entry_at.Tie as tie
 

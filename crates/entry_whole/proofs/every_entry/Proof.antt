@@ -7,7 +7,7 @@ use borrow.Author.Needs.{needs}
 use borrow.Author.Tests.{not-true, not-false}
 use Rattle.handshake.specs.Tables.{entryRow, entryNumbers}
 use Rattle.handshake.specs.RowsLaws.{Passed, passed-start, passed-next, passed-not, passed-end}
-use Rattle.entry_rows.specs.Row.{row-there}
+use Rattle.entry_rows.specs.ValueLaws.{row-there}
 use Rattle.entry_whole.proofs.every_entry.Statement.{statement}
 use Rattle.entry_whole.proofs.every_entry.Tie as tie
 

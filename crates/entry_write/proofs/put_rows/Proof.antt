@@ -8,8 +8,7 @@ use borrow.Author.Needs.{needs}
 use Rattle.handshake.specs.Value.{entryBytes}
 use Rattle.handshake.specs.Tables.{lent, entryRow, entryOf, entriesOf, entryInside}
 use Rattle.handshake.specs.PuttingLaws.{Putting, putting-start, putting-room, putting-turn, putting-end}
-use Rattle.entry_rows.specs.Row.{row-there}
-use Rattle.entry_rows.specs.ValueLaws.{own-entry}
+use Rattle.entry_rows.specs.ValueLaws.{row-there, own-entry}
 use Rattle.entry_write.specs.RowsLaws.{each-row-ready}
 use Rattle.entry_write.proofs.put_rows.Statement.{statement}
 use Rattle.entry_write.proofs.put_rows.Tie as tie

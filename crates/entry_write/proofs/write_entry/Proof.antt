@@ -4,8 +4,7 @@ use denote.Ref.{now}
 use borrow.Author.Needs.{needs}
 use Rattle.wire.specs.OutputLaws.{wrote-length}
 use Rattle.handshake.specs.Tables.{lent, entryRow}
-use Rattle.entry_rows.specs.Row.{row-there}
-use Rattle.entry_rows.specs.ValueLaws.{own-entry}
+use Rattle.entry_rows.specs.ValueLaws.{row-there, own-entry}
 use Rattle.entry_write.specs.EntryLaws.{entry-in-table, entry-accepted, entry-stored, entry-kept}
 use Rattle.entry_write.proofs.write_entry.Statement.{statement}
 use Rattle.entry_write.proofs.write_entry.Tie as tie
