@@ -25,7 +25,7 @@ pub struct Row {
     pub sides: Vec<Side>,
 }
 
-/// Where the Rust allocates and neither side hashes, ours may take half of its time.
+/// Where the Rust allocates and neither side hashes, ours may take half of its time, but for the writing of a handshake.
 pub const HALF: f64 = 0.5;
 
 /// Elsewhere, as much as the Rust.
