@@ -10,7 +10,6 @@ use Rattle.wire.specs.Bytes.{every}
 use Rattle.wire.specs.BytesLaws.{and-true}
 use Rattle.wire.specs.Output.{ask, asked}
 use Rattle.wire.specs.OutputLaws.{AllHold}
-use Rattle.wire.specs.declared.Written.{Written}
 use Rattle.wire.specs.declared.Written.the-variants.{To, Refused}
 use Rattle.output_ask.specs.Asked.{writtenFor, placed}
 use Rattle.output_ask.specs.AskedLaws.{Without16, placed-asked}

@@ -18,6 +18,7 @@ use entry_length::row_len;
 use entry_questions::About;
 use entry_questions::row_holds;
 use entry_rows::entry_at;
+use entry_rows::min_of;
 use entry_whole::tables_whole;
 use wire::MAX_BODY_SIZE;
 use wire::Written;
@@ -108,10 +109,4 @@ fn every_row(
         k += 1;
     }
     true
-}
-
-fn min_of(a: usize, b: usize) -> usize
-    ensures { λ r. ⌜ r ≡ min a b ⌝ }
-{
-    if a <= b { a } else { b }
 }

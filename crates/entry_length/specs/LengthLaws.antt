@@ -1,9 +1,9 @@
 -- How many bytes an entry, its address and its features are written as.
-use Prim.Native.Nat.{ℕ, _+_, _-_, _≤_}
+use Prim.Native.Nat.{ℕ, _+_, _-_}
 use native.Mathlib.Omega.{arith}
 use mathlib.Core.List.{List, [], _∷_, _++_, map, flatMap, append-assoc}
 use mathlib.Core.Path.{_≡_, ap, _∙_}
-use lib.ListN.{length, drop, length-append, length-take, length-map}
+use lib.ListN.{length, length-append, length-map}
 use borrow.Author.Tests.{ne-eqb}
 use Rattle.wire.specs.Bytes.{bigEndianBytes}
 use Rattle.wire.specs.BytesLaws.{length-bigEndianBytes}
@@ -16,9 +16,6 @@ use Rattle.handshake.specs.Value.{featureBytes, versionBytes, addressBytes, ent
 use Rattle.handshake.specs.Tables.{Lent, featureRow, ownRows, bytesAt, featureOf, entryOf}
 use Rattle.handshake.specs.RowsLaws.{length-rows}
 use Rattle.entry_length.specs.Length.{headBytes}
-
-pub length-bytesAt-le : (s : List ℕ) (at n : ℕ) → length (bytesAt s at n) ≤ n
-length-bytesAt-le s at n = omega (arith, length-take n (drop at s))
 
 -- ---- an address
 

@@ -19,7 +19,7 @@ use handshake::FeatureRow;
 use vlq_write::vlq_len;
 use wire::MAX_BODY_SIZE;
 
-// Of the entry of a row; 0 where a question after 16 is answered "no". No entry has fewer than 6 bytes.
+// Of the entry of a row; 0 where a question after 16 is answered "no". No entry has fewer than 7 bytes.
 pub fn row_len(features: &[u32], buffer: &[u8], e: EntryRow) -> usize
     ensures { λ r. ⌜ (r ≡ rowLength (now (features .entry)) (now (buffer .entry)) e) × (r ≤ 10000000000000) ⌝ }
 {

@@ -109,7 +109,8 @@ fn number_at(t: &[u32], i: usize) -> u32
     if i < t.len() { t[i] } else { 0 }
 }
 
-fn min_of(a: usize, b: usize) -> usize
+// The smaller of two numbers.
+pub fn min_of(a: usize, b: usize) -> usize
     ensures { λ r. ⌜ r ≡ min a b ⌝ }
 {
     if a <= b { a } else { b }

@@ -12,7 +12,6 @@ use Rattle.wire.specs.AnswerLaws.{no-answer, bind-got}
 use Rattle.wire.specs.ReaderLaws.{length-part, part-at}
 use Rattle.utf8.specs.Utf8.{utf8}
 use Rattle.vlq.specs.ShortString.{string, shortString}
-use Rattle.handshake.specs.Entry.{entry}
 use Rattle.handshake.specs.Verdict.{firstFeature, stringFrom, urlOf, restApiUrl}
 use Rattle.handshake_read.specs.declared.Feature.{Feature}
 use Rattle.handshake_verdict.specs.declared.Found.{Found}

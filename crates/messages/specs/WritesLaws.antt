@@ -1,5 +1,5 @@
 -- A message whose write was accepted is read back: every question held, so its body is within the limit, its ids have 32 bytes and its addresses have the
--- numbers of their type.
+-- numbers of their type. And the cap is asked of Peers alone.
 use Prim.Native.Nat.{ℕ, _≤_}
 use mathlib.Core.Bool.{true}
 use mathlib.Core.List.{List, map}
@@ -19,7 +19,7 @@ use Rattle.handshake.specs.TablesLaws.{length-bytesAt, whole-entries, row-addre
 use Rattle.handshake.specs.WritesLaws.{hold-each}
 use Rattle.messages.specs.MessageLaws.{idsIn, WritableMessage, ReadAs, reads-message}
 use Rattle.messages.specs.Value as Values
-use Rattle.messages.specs.Value.{PayloadValue, MessageValue, bodyBytes, messageAsked}
+use Rattle.messages.specs.Value.{PayloadValue, MessageValue, bodyBytes, countWithin, messageAsked}
 use Rattle.messages.specs.Writes.{idPlaces, idsOf, payloadRows, payloadOf, payloadInside, MessageWrite, writeGetPeers, writePeers, writeModifierRequest, writeModifierResponse, writeInv, writeSyncInfo, writeUnknown, valueOf, messageWhole, messageInside, messageWritten}
 
 -- ---- rows
@@ -93,3 +93,16 @@ message-reads-back network cap w out at end typed q =
     let writable : WritableMessage cap (valueOf w) =
     record { asked = asked; ids = message-ids w (a .rest .0); addresses = message-addresses w typed (a .first .0) (a .rest .0) } in
     (body-within cap (valueOf w) asked, reads-message cap (valueOf w) writable)
+
+-- ---- the cap
+
+pub any-cap : (network : Network) (cap : ℕ) (w : MessageWrite) → ((l : Lent) → w ≡ writePeers l → ⊥) → (out : List ℕ) (at : ℕ)
+    → messageWritten network cap w out at ≡ messageWritten network 0 w out at
+unfolding messageWritten messageAsked valueOf countWithin
+any-cap network cap writeGetPeers other out at = refl
+any-cap network cap (writePeers l) other out at = absurd (other l refl)
+any-cap network cap (writeModifierRequest kind ids buffer) other out at = refl
+any-cap network cap (writeModifierResponse kind payloads buffer) other out at = refl
+any-cap network cap (writeInv kind ids buffer) other out at = refl
+any-cap network cap (writeSyncInfo body) other out at = refl
+any-cap network cap (writeUnknown code body) other out at = refl

@@ -1,4 +1,4 @@
--- Laws of the writers of messages: what is said by sizes is what `messageWritten` says, with any cap but for Peers; and how Unknown is stored.
+-- Laws of the writers of messages: what is said by sizes is what `messageWritten` says; and how Unknown is stored.
 use Prim.Native.Nat.{ℕ, _+_, _≤_}
 use native.Mathlib.Omega.{arith}
 use mathlib.Core.Bool.{true}
@@ -18,26 +18,13 @@ use Rattle.frame.specs.Frame.{frameBytes}
 use Rattle.frame.specs.Writes.{frameWritten}
 use Rattle.frame_write.specs.Asked.{frameLength, frameWrittenFor}
 use Rattle.frame_write.specs.FrameWriteLaws.{length-frame}
-use Rattle.handshake.specs.Tables.{Lent}
 use Rattle.handshake.specs.Value.{entriesAsked}
 use Rattle.messages.specs.Value as Values
 use Rattle.messages.specs.Value.{codeOf, bodyBytes, unknownCode, payloadsWithin, countWithin, codeFree, messageAsked}
-use Rattle.messages.specs.Writes.{MessageWrite, writeGetPeers, writePeers, writeModifierRequest, writeModifierResponse, writeInv, writeSyncInfo, writeUnknown, valueOf, messageWhole, messageInside, messageWritten}
+use Rattle.messages.specs.Writes.{writeGetPeers, writeSyncInfo, writeUnknown, valueOf, messageWhole, messageInside, messageWritten}
 use Rattle.messages_write.specs.Asked.{unknownWrittenFor}
 
 -- ---- what is said
-
--- the cap is asked of Peers alone
-pub any-cap : (network : Network) (cap : ℕ) (w : MessageWrite) → ((l : Lent) → w ≡ writePeers l → ⊥) → (out : List ℕ) (at : ℕ)
-    → messageWritten network cap w out at ≡ messageWritten network 0 w out at
-unfolding messageWritten messageAsked valueOf countWithin
-any-cap network cap writeGetPeers other out at = refl
-any-cap network cap (writePeers l) other out at = absurd (other l refl)
-any-cap network cap (writeModifierRequest kind ids buffer) other out at = refl
-any-cap network cap (writeModifierResponse kind payloads buffer) other out at = refl
-any-cap network cap (writeInv kind ids buffer) other out at = refl
-any-cap network cap (writeSyncInfo body) other out at = refl
-any-cap network cap (writeUnknown code body) other out at = refl
 
 pub said-get-peers : (network : Network) (out : List ℕ) (at : ℕ) → frameWrittenFor (length out) at 0 ≡ messageWritten network 0 writeGetPeers out at
 unfolding frameWrittenFor messageWritten written asked messageWhole messageInside messageAsked valueOf Values.entriesOf payloadsWithin countWithin codeFree entriesAsked every bodyBytes codeOf

@@ -6,7 +6,7 @@ use mathlib.Core.List.{List, [], _∷_}
 use mathlib.Core.Path.{_≡_, ap, _∙_}
 use lib.Dec.{T}
 use lib.ListN.{length, take, drop}
-use Rattle.wire.specs.Reader.{got, refused, part, partOf, mapAnswer}
+use Rattle.wire.specs.Reader.{got, refused, partOf, mapAnswer}
 use Rattle.wire.specs.ReaderLaws.{part-got, part-missing, part-outside, length-part}
 use Rattle.wire.specs.Stable.{Stable}
 use Rattle.wire.specs.StableLaws.{stable-then, stable-guard, stable-byte, stable-part}

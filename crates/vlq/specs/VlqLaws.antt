@@ -10,7 +10,7 @@ use lib.Dec.{T, ltb, leb}
 use lib.ListN.{length, getD}
 use borrow.Author.Tests.{lt-ltb, le-ltb, le-leb}
 use Rattle.wire.specs.Numbers.{lt-or-ge}
-use Rattle.wire.specs.Reader.{Answer, got, refused, bind, byte}
+use Rattle.wire.specs.Reader.{Answer, got, refused, bind}
 use Rattle.wire.specs.AnswerLaws.{no-answer}
 use Rattle.wire.specs.ReaderLaws.{byte-got, byte-missing, byte-outside}
 use Rattle.wire.specs.Stable.{Stable, AtLeast}

@@ -2,10 +2,12 @@ pub mod Walk
 pub mod CutRule
 pub mod Session
 pub mod WrittenSession
+pub mod Calls
 pub mod Theorems
 pub mod WalkLaws
 pub mod CutRuleLaws
 pub mod WrittenLaws
+pub mod CallsLaws
 pub mod SessionLaws
 pub mod TheoremsProved
 pub mod Cases

@@ -8,7 +8,8 @@ use Rattle.types.specs.declared.Network.{Network}
 use Rattle.walk.specs.Walk.{Layer, Item, clean, stopped}
 use Rattle.walk.specs.CutRule.{CutRule}
 use Rattle.walk.specs.Session.{sessionReading}
-use Rattle.walk.specs.WrittenSession.{Write, writeValue, AllTyped, writeAll, sessionBytes, HandshakeFirst, itemValues}
+use Rattle.walk.specs.WrittenSession.{Write, writeValue, AllTyped, Done, writeAll, sessionBytes, HandshakeFirst, itemValues}
+use Rattle.walk.specs.Calls.{Calls}
 
 -- each item starts where the last one ended, the first at a place
 pub data Chained {F : Type 0} : ℕ → List (Item F) → Type 0 where
@@ -19,6 +20,10 @@ module _ (network : Network) (cap : ℕ) where
   -- The cut rule: for all bytes and every cut up to their length.
   abbrev pub CutAnywhere : Type 0
   CutAnywhere = (s : List ℕ) (k : ℕ) → k ≤ length s → CutRule k (sessionReading network cap s) (sessionReading network cap (take k s))
+
+  -- Whatever a list of calls of our writers leaves, by their contracts, is what `writeAll` says of the list.
+  abbrev pub CallsAreWrites : Type 0
+  CallsAreWrites = (ws : List Write) (out : List ℕ) (d : Done) → Calls network cap ws out 0 d → d ≡ writeAll network cap ws out 0
 
   -- Written sessions: the bytes of every list of writes from the start of any output, refused ones included, in which exactly one handshake is
   -- accepted, before any message is, read as the accepted values, in order, and end cleanly.

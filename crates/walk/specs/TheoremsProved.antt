@@ -4,16 +4,20 @@ use native.Mathlib.Omega.{arith}
 use Rattle.types.specs.declared.Network.{Network}
 use Rattle.walk.specs.Walk.{reading}
 use Rattle.walk.specs.Session.{sessionReading}
-use Rattle.walk.specs.Theorems.{CutAnywhere, ReadsAsWritten, OneMeaning, Ends}
+use Rattle.walk.specs.Theorems.{CutAnywhere, CallsAreWrites, ReadsAsWritten, OneMeaning, Ends}
 use Rattle.walk.specs.WalkLaws.{walks, walk-ends, walk-chained, walk-room}
 use Rattle.walk.specs.CutRuleLaws.{cut-rule}
 use Rattle.walk.specs.WrittenLaws.{written-reads, written-once}
+use Rattle.walk.specs.CallsLaws.{calls-write-all}
 use Rattle.walk.specs.SessionLaws.{session-readers, session-writers}
 
 module _ (network : Network) (cap : ℕ) where
   pub cut-anywhere : CutAnywhere network cap
   unfolding sessionReading
   cut-anywhere = cut-rule (session-readers network cap)
+
+  pub calls-are-writes : CallsAreWrites network cap
+  calls-are-writes ws out d calls = calls-write-all network cap calls
 
   pub reads-as-written : ReadsAsWritten network cap
   reads-as-written = written-reads network cap 8 (session-readers network cap) (session-writers network cap)

@@ -22,7 +22,6 @@ use Rattle.messages_read.specs.declared.Message as Given
 use Rattle.walk.specs.Walk.{stepTo, step}
 use Rattle.walk.specs.WalkLaws.{openAt, step-end, step-open, step-outside}
 use Rattle.walk.specs.Session.{Content, handshakeItem, messageItem, frameItem, handshakeAt, messageAt, sessionStep}
-use Rattle.walk_read.specs.declared.StepRead.{StepRead}
 use Rattle.walk_read.specs.declared.StepRead.the-variants as StepReads
 use Rattle.walk_read.specs.declared.Layer.the-variants as Layers
 use Rattle.walk_read.specs.Steps.{streamPlace, itemOf, stepOf, openedStep}

@@ -120,9 +120,6 @@ take-drop-take n (suc at) zero s h = absurd (omega arith)
 take-drop-take n (suc at) (suc k) [] h = refl
 take-drop-take n (suc at) (suc k) (x ∷ s) h = take-drop-take n at k s (omega arith)
 
-pub local-byte : (n i : ℕ) → i < n → Local n (λ s at. getD s (at + i) 0)
-local-byte n i h = record { same = λ s at k g u. getD-take k s (at + i) 0 (omega arith) }
-
 local-part : (n : ℕ) → Local {A = Segment} n (λ s at. record { start = at; bytes = take n (drop at s) })
 local-part n = record { same = λ s at k g u. ap {B = Segment} (λ (l : List ℕ). record { start = at; bytes = l }) (take-drop-take n at k s g) }
 
@@ -141,13 +138,6 @@ least-byte = least-field 1 1 (λ s at. getD s at 0)
 
 pub least-none : {A : Type 0} {isCut : ℕ → Bool} {p : Reader A} → Stable isCut p → AtLeast 0 p
 least-none h = record { moves = λ s at a e g q. omega (arith, h .moves s at a e g q) }
-
-pub least-weaker : {A : Type 0} {p : Reader A} (m n : ℕ) → m ≤ n → AtLeast n p → AtLeast m p
-least-weaker m n l h = record { moves = λ s at a e g q. omega (arith, h .moves s at a e g q) }
-
-pub least-cond : {A : Type 0} {n : ℕ} (b : Bool) {p q : Reader A} → AtLeast n p → AtLeast n q → AtLeast n (cond b p q)
-least-cond true hp hq = hp
-least-cond false hp hq = hq
 
 -- one reader and then another
 pub least-then : {A B : Type 0} {isCut : ℕ → Bool} {p : Reader A} {f : A → Reader B} (m n : ℕ) → Stable isCut p → AtLeast m p

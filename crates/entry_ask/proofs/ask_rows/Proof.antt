@@ -3,7 +3,7 @@
 use Prim.Native.Nat.{_+_, _-_, _/_, _≤_, min}
 use native.Mathlib.Nat.{sub-zero}
 use native.Mathlib.Omega.{arith}
-use mathlib.Core.List.{[], map, flatMap}
+use mathlib.Core.List.{map, flatMap}
 use mathlib.Core.Path.{_≡_, refl, sym, ap, _∙_}
 use denote.Ref.{now}
 use lib.ListN.{length, length-append}

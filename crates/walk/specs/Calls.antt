@@ -1,0 +1,35 @@
+-- A list of calls of our writers on one output, told by what each call returned and left: the two equations that the contract of every writer
+-- ensures. `writeAll` computes the same from the writes alone (`Theorems`, `CallsAreWrites`).
+use Prim.Native.Nat.{ℕ}
+use mathlib.Core.List.{List, [], _∷_}
+use mathlib.Core.Path.{_≡_}
+use Rattle.wire.specs.Output.{outputAfter}
+use Rattle.wire.specs.declared.Written.{Written}
+use Rattle.wire.specs.declared.Written.the-variants.{To, Refused}
+use Rattle.types.specs.declared.Network.{Network}
+use Rattle.walk.specs.WrittenSession.{Write, said, writeBytes, Done}
+
+-- where the next call starts: where this one ended if it was accepted, otherwise where it started
+unfoldable pub nextPlace : Written → ℕ → ℕ
+nextPlace (To end) at = end
+nextPlace (Refused n) at = at
+
+-- the accepted writes, with this one if it was accepted
+unfoldable pub withAccepted : Write → Written → List Write → List Write
+withAccepted w (To end) ws = w ∷ ws
+withAccepted w (Refused n) ws = ws
+
+module _ (network : Network) (cap : ℕ) where
+  -- a call of the writer of w, given the output out and the place at, returned r and left the output as left
+  pub record Called (w : Write) (out : List ℕ) (at : ℕ) (r : Written) (left : List ℕ) : Type 0 where
+    pub answer : r ≡ said network cap w out at
+    pub output : left ≡ outputAfter r out at (writeBytes network cap w)
+
+  -- calls one after the other, from the output out and the place at on: what they left, where the last accepted one ended, and the accepted ones
+  pub data Calls : List Write → List ℕ → ℕ → Done → Type 0 where
+    none : {out : List ℕ} {at : ℕ} → Calls [] out at (record { out = out; at = at; accepted = [] })
+    call :
+        {w : Write} {ws : List Write} {out left : List ℕ} {at : ℕ} {r : Written} {d : Done}
+        → Called w out at r left
+        → Calls ws left (nextPlace r at) d
+        → Calls (w ∷ ws) out at (record { out = d .out; at = d .at; accepted = withAccepted w r (d .accepted) })

@@ -1,0 +1,74 @@
+-- A list of calls leaves what `writeAll` says: by the list, each call's two equations put in for what it returned and left. The two equations are
+-- those that the contracts of the writers state, which say cap 0 where the cap is not asked.
+use Prim.Native.Nat.{ℕ}
+use mathlib.Core.List.{List}
+use mathlib.Core.Path.{_≡_, refl, sym, _∙_}
+use Rattle.wire.specs.Output.{outputAfter}
+use Rattle.wire.specs.declared.Written.{Written}
+use Rattle.wire.specs.declared.Written.the-variants.{To, Refused}
+use Rattle.types.specs.declared.Network.{Network}
+use Rattle.handshake.specs.Value.{handshakeBytes}
+use Rattle.handshake.specs.Tables.{Lent}
+use Rattle.handshake.specs.Writes.{Config, built, builtWritten, handshakeAt, handshakeWritten}
+use Rattle.messages.specs.Writes.{MessageWrite, writePeers, valueOf, messageBytes, messageWritten}
+use Rattle.messages.specs.WritesLaws.{any-cap}
+use Rattle.walk.specs.WrittenSession.{Write, writeHandshake, writeBuilt, writeMessage, said, writeBytes, Done, after, writeAll}
+use Rattle.walk.specs.Calls.{nextPlace, withAccepted, Called, Calls, none, call}
+
+-- ---- the contracts as calls
+
+module _ (network : Network) (cap : ℕ) {out left : List ℕ} {at : ℕ} {r : Written} where
+  pub called-handshake :
+      (timestamp : ℕ) (l : Lent) (k : ℕ)
+      → r ≡ handshakeWritten timestamp l k out at
+      → left ≡ outputAfter r out at (handshakeBytes (handshakeAt timestamp l k))
+      → Called network cap (writeHandshake timestamp l k) out at r left
+  unfolding said writeBytes
+  called-handshake timestamp l k a o = record { answer = a; output = o }
+
+  pub called-built :
+      (c : Config)
+      → r ≡ builtWritten c out at
+      → left ≡ outputAfter r out at (handshakeBytes (built c))
+      → Called network cap (writeBuilt c) out at r left
+  unfolding said writeBytes
+  called-built c a o = record { answer = a; output = o }
+
+  pub called-peers :
+      (l : Lent)
+      → r ≡ messageWritten network cap (writePeers l) out at
+      → left ≡ outputAfter r out at (messageBytes network (valueOf (writePeers l)))
+      → Called network cap (writeMessage (writePeers l)) out at r left
+  unfolding said writeBytes
+  called-peers l a o = record { answer = a; output = o }
+
+  pub called-message :
+      (w : MessageWrite)
+      → ((l : Lent) → w ≡ writePeers l → ⊥)
+      → r ≡ messageWritten network 0 w out at
+      → left ≡ outputAfter r out at (messageBytes network (valueOf w))
+      → Called network cap (writeMessage w) out at r left
+  unfolding said writeBytes
+  called-message w other a o = record { answer = a ∙ sym (any-cap network cap w other out at); output = o }
+
+-- ---- a list of calls
+
+-- what follows a write, from what the rest leaves
+after-rest :
+    (w : Write) (r : Written) (out : List ℕ) (at : ℕ) (next : List ℕ → ℕ → Done)
+    → after w r out at next
+    ≡ record { out = next out (nextPlace r at) .out; at = next out (nextPlace r at) .at; accepted = withAccepted w r (next out (nextPlace r at) .accepted) }
+unfolding after nextPlace withAccepted
+after-rest w (To end) out at next = refl
+after-rest w (Refused n) out at next = refl
+
+module _ (network : Network) (cap : ℕ) where
+  pub calls-write-all :
+      {ws : List Write} {out : List ℕ} {at : ℕ} {d : Done}
+      → Calls network cap ws out at d
+      → d ≡ writeAll network cap ws out at
+  unfolding writeAll
+  calls-write-all none = refl
+  calls-write-all (call {w} {ws} {out} {left} {at} {r} {d} c rest) =
+      let e = calls-write-all rest in
+      rw (after-rest, ← c .answer, ← c .output, ← e)
