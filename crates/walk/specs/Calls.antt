@@ -1,5 +1,6 @@
--- A list of calls of our writers on one output, told by what each call returned and left: the two equations that the contract of every writer
--- ensures. `writeAll` computes the same from the writes alone (`Theorems`, `CallsAreWrites`).
+-- Sessions told by calls, one after the other. Of our writers on one output: what each call returned and left, by the two equations that the
+-- contract of every writer ensures. Of the step: its answers from a place on. `writeAll` and `sessionReading` compute the same from the writes and
+-- the bytes alone (`Theorems`: `CallsAreWrites`, `StepsAreReading`).
 use Prim.Native.Nat.{ℕ}
 use mathlib.Core.List.{List, [], _∷_}
 use mathlib.Core.Path.{_≡_}
@@ -7,7 +8,11 @@ use Rattle.wire.specs.Output.{outputAfter}
 use Rattle.wire.specs.declared.Written.{Written}
 use Rattle.wire.specs.declared.Written.the-variants.{To, Refused}
 use Rattle.types.specs.declared.Network.{Network}
+use Rattle.walk.specs.Walk.{Layer, Item, item, cleanEnd, stop, clean, stopped, Reading}
+use Rattle.walk.specs.Session.{Content, sessionStep}
 use Rattle.walk.specs.WrittenSession.{Write, said, writeBytes, Done}
+
+-- ---- writes
 
 -- where the next call starts: where this one ended if it was accepted, otherwise where it started
 unfoldable pub nextPlace : Written → ℕ → ℕ
@@ -33,3 +38,19 @@ module _ (network : Network) (cap : ℕ) where
         → Called w out at r left
         → Calls ws left (nextPlace r at) d
         → Calls (w ∷ ws) out at (record { out = d .out; at = d .at; accepted = withAccepted w r (d .accepted) })
+
+-- ---- steps
+
+module _ (network : Network) (cap : ℕ) where
+  -- the answers of the steps from a place on, each next one at the last item's end: the items, then the clean end or the stop
+  pub data StepsFrom (s : List ℕ) : ℕ → Reading Content → Type 0 where
+    more :
+        {at : ℕ} {i : Item Content} {r : Reading Content}
+        → sessionStep network cap s at ≡ item i
+        → StepsFrom s (i .end) r
+        → StepsFrom s at (record { items = i ∷ r .items; ending = r .ending })
+    over : {at : ℕ} → sessionStep network cap s at ≡ cleanEnd → StepsFrom s at (record { items = []; ending = clean })
+    stops :
+        {at place n : ℕ} {layer : Layer}
+        → sessionStep network cap s at ≡ stop layer n place
+        → StepsFrom s at (record { items = []; ending = stopped layer n place })

@@ -1,8 +1,12 @@
 -- A list of calls leaves what `writeAll` says: by the list, each call's two equations put in for what it returned and left. The two equations are
--- those that the contracts of the writers state, which say cap 0 where the cap is not asked.
-use Prim.Native.Nat.{ℕ}
+-- those that the contracts of the writers state, which say cap 0 where the cap is not asked. And the answers of the steps are the reading: the walk from
+-- a place is the step's answer there and the walk from its end (`walk-step`), and it comes to an end (`walks`).
+use Prim.Native.Nat.{ℕ, _≤_}
+use native.Mathlib.Omega.{arith}
 use mathlib.Core.List.{List}
+use lib.ListN.{length}
 use mathlib.Core.Path.{_≡_, refl, sym, _∙_}
+use lib.ListN.{length}
 use Rattle.wire.specs.Output.{outputAfter}
 use Rattle.wire.specs.declared.Written.{Written}
 use Rattle.wire.specs.declared.Written.the-variants.{To, Refused}
@@ -12,8 +16,13 @@ use Rattle.handshake.specs.Tables.{Lent}
 use Rattle.handshake.specs.Writes.{Config, built, builtWritten, handshakeAt, handshakeWritten}
 use Rattle.messages.specs.Writes.{MessageWrite, writePeers, valueOf, messageBytes, messageWritten}
 use Rattle.messages.specs.WritesLaws.{any-cap}
+use Rattle.walk.specs.Walk.{item, stop, Reading, stepTo, onward, walk, reading}
+use Rattle.walk.specs.Session.{Content, handshakeAt as handshakeOpened, messageAt, sessionStep, sessionReading}
+use Rattle.walk.specs.WalkLaws as WalkLaws
+use Rattle.walk.specs.WalkLaws.{step-end, step-open, Walks, walks, walk-over, walk-stops, walk-goes, step-item, walk-step}
+use Rattle.walk.specs.SessionLaws.{session-readers}
 use Rattle.walk.specs.WrittenSession.{Write, writeHandshake, writeBuilt, writeMessage, said, writeBytes, Done, after, writeAll}
-use Rattle.walk.specs.Calls.{nextPlace, withAccepted, Called, Calls, none, call}
+use Rattle.walk.specs.Calls.{nextPlace, withAccepted, Called, Calls, none, call, StepsFrom, more, over, stops}
 
 -- ---- the contracts as calls
 
@@ -72,3 +81,39 @@ module _ (network : Network) (cap : ℕ) where
   calls-write-all (call {w} {ws} {out} {left} {at} {r} {d} c rest) =
       let e = calls-write-all rest in
       rw (after-rest, ← c .answer, ← c .output, ← e)
+
+-- ---- the answers of the steps
+
+module _ (network : Network) (cap : ℕ) (s : List ℕ) where
+  -- the walk from a place
+  abbrev From : ℕ → Reading Content
+  From at = walk Content (handshakeOpened network) (messageAt network cap) s at
+
+  steps-walk : {at : ℕ} {r : Reading Content} → at ≤ length s → StepsFrom network cap s at r → r ≡ From at
+  unfolding sessionStep onward
+  steps-walk {at} h (more {i = i} q rest) =
+      let b = step-item (session-readers network cap) s at i h q in
+      rw (walk-step (session-readers network cap) s at h, q, ← steps-walk (b .2) rest)
+  steps-walk {at} h (over q) = rw (walk-step (session-readers network cap) s at h, q)
+  steps-walk {at} h (stops q) = rw (walk-step (session-readers network cap) s at h, q)
+
+  pub steps-read : (r : Reading Content) → StepsFrom network cap s 0 r → r ≡ sessionReading network cap s
+  unfolding sessionReading reading
+  steps-read r w = steps-walk (omega arith) w
+
+  walk-steps : {at : ℕ} → at ≤ length s → Walks (session-readers network cap) s at → StepsFrom network cap s at (From at)
+  unfolding sessionStep stepTo
+  walk-steps {at} h (WalkLaws.over z e) =
+      rw (walk-over (session-readers network cap) s at z e) (over (step-end Content (handshakeOpened network) (messageAt network cap) s at z e))
+  walk-steps {at} h (WalkLaws.stops layer n b q) =
+      let e : sessionStep network cap s at ≡ stop layer n at =
+      rw (step-open Content (handshakeOpened network) (messageAt network cap) s at b, q) in
+      rw (walk-stops (session-readers network cap) s at layer n b q) (stops e)
+  walk-steps {at} h (WalkLaws.goes f end b q m l w) =
+      let e : sessionStep network cap s at ≡ item (record { start = at; end = end; holds = f }) =
+      rw (step-open Content (handshakeOpened network) (messageAt network cap) s at b, q) in
+      rw (walk-goes (session-readers network cap) s at f end h b q) (more e (walk-steps l w))
+
+  pub read-steps : (r : Reading Content) → r ≡ sessionReading network cap s → StepsFrom network cap s 0 r
+  unfolding sessionReading reading
+  read-steps r e = rw e (walk-steps (omega arith) (walks (session-readers network cap) s 0 (omega arith)))

@@ -1,15 +1,15 @@
 -- What holds of every session, for every network and Peers cap. The statements alone; `TheoremsProved` proves them.
 use Prim.Native.Nat.{ℕ, _*_, _≤_}
 use mathlib.Core.List.{List, [], _∷_, map}
-use mathlib.Core.Logic.{_⊎_}
+use mathlib.Core.Logic.{_↔_, _⊎_}
 use mathlib.Core.Path.{_≡_}
 use lib.ListN.{length, take}
 use Rattle.types.specs.declared.Network.{Network}
-use Rattle.walk.specs.Walk.{Layer, Item, clean, stopped}
+use Rattle.walk.specs.Walk.{Layer, Item, clean, stopped, Reading}
 use Rattle.walk.specs.CutRule.{CutRule}
-use Rattle.walk.specs.Session.{sessionReading}
+use Rattle.walk.specs.Session.{Content, sessionReading}
 use Rattle.walk.specs.WrittenSession.{Write, writeValue, AllTyped, Done, writeAll, sessionBytes, HandshakeFirst, itemValues}
-use Rattle.walk.specs.Calls.{Calls}
+use Rattle.walk.specs.Calls.{Calls, StepsFrom}
 
 -- each item starts where the last one ended, the first at a place
 pub data Chained {F : Type 0} : ℕ → List (Item F) → Type 0 where
@@ -17,6 +17,10 @@ pub data Chained {F : Type 0} : ℕ → List (Item F) → Type 0 where
   link : {at : ℕ} {i : Item F} {is : List (Item F)} → i .start ≡ at → Chained (i .end) is → Chained at (i ∷ is)
 
 module _ (network : Network) (cap : ℕ) where
+  -- A session's reading is the answers of the steps from place 0, each next one at the last item's end, and nothing else is.
+  abbrev pub StepsAreReading : Type 0
+  StepsAreReading = (s : List ℕ) (r : Reading Content) → StepsFrom network cap s 0 r ↔ (r ≡ sessionReading network cap s)
+
   -- The cut rule: for all bytes and every cut up to their length.
   abbrev pub CutAnywhere : Type 0
   CutAnywhere = (s : List ℕ) (k : ℕ) → k ≤ length s → CutRule k (sessionReading network cap s) (sessionReading network cap (take k s))

@@ -4,14 +4,17 @@ use native.Mathlib.Omega.{arith}
 use Rattle.types.specs.declared.Network.{Network}
 use Rattle.walk.specs.Walk.{reading}
 use Rattle.walk.specs.Session.{sessionReading}
-use Rattle.walk.specs.Theorems.{CutAnywhere, CallsAreWrites, ReadsAsWritten, OneMeaning, Ends}
+use Rattle.walk.specs.Theorems.{StepsAreReading, CutAnywhere, CallsAreWrites, ReadsAsWritten, OneMeaning, Ends}
 use Rattle.walk.specs.WalkLaws.{walks, walk-ends, walk-chained, walk-room}
 use Rattle.walk.specs.CutRuleLaws.{cut-rule}
 use Rattle.walk.specs.WrittenLaws.{written-reads, written-once}
-use Rattle.walk.specs.CallsLaws.{calls-write-all}
+use Rattle.walk.specs.CallsLaws.{steps-read, read-steps, calls-write-all}
 use Rattle.walk.specs.SessionLaws.{session-readers, session-writers}
 
 module _ (network : Network) (cap : ℕ) where
+  pub steps-are-reading : StepsAreReading network cap
+  steps-are-reading s r = (steps-read network cap s r, read-steps network cap s r)
+
   pub cut-anywhere : CutAnywhere network cap
   unfolding sessionReading
   cut-anywhere = cut-rule (session-readers network cap)
