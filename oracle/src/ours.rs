@@ -38,6 +38,11 @@ fn reached<const N: usize>(
     }
 }
 
+/// The answer of a reader of one number.
+fn reached_number(result: Result<[u64; 2], Answer>) -> Answer {
+    reached(result, |[number, next]| (Some(Value::Unsigned(number)), next))
+}
+
 /// The bytes that begin at `start` and end at `next`, if they are `length` ones of s.
 fn part(s: &[u8], start: u64, length: u64, next: u64) -> Option<Value> {
     let part = s.get(start as usize..next as usize)?;
@@ -58,18 +63,15 @@ fn part_at(s: &[u8], start: u64, length: u64) -> Option<Value> {
 // borrowed for the call, and our functions read and write within these alone.
 
 pub fn read_byte(s: &[u8], at: usize) -> Answer {
-    let result = call(|r| unsafe { haspeljo_read_byte(s.as_ptr(), s.len(), at, r) });
-    reached(result, |[value, next]| (Some(Value::Unsigned(value)), next))
+    reached_number(call(|r| unsafe { haspeljo_read_byte(s.as_ptr(), s.len(), at, r) }))
 }
 
 pub fn read_vlq(s: &[u8], at: usize) -> Answer {
-    let result = call(|r| unsafe { haspeljo_read_vlq(s.as_ptr(), s.len(), at, r) });
-    reached(result, |[value, next]| (Some(Value::Unsigned(value)), next))
+    reached_number(call(|r| unsafe { haspeljo_read_vlq(s.as_ptr(), s.len(), at, r) }))
 }
 
 pub fn read_vlq_length(s: &[u8], at: usize) -> Answer {
-    let result = call(|r| unsafe { haspeljo_read_vlq_length(s.as_ptr(), s.len(), at, r) });
-    reached(result, |[value, next]| (Some(Value::Unsigned(value)), next))
+    reached_number(call(|r| unsafe { haspeljo_read_vlq_length(s.as_ptr(), s.len(), at, r) }))
 }
 
 pub fn read_short_string(s: &[u8], at: usize) -> Answer {

@@ -1,7 +1,6 @@
 //! Our writers of handshakes.
 
-use super::write;
-use super::writers::output;
+use super::writers::on_case;
 use crate::answer::Answer;
 use crate::case::Case;
 use crate::rust::builds::Config;
@@ -38,17 +37,15 @@ pub fn put_handshake(
 }
 
 pub fn write_handshake(case: &Case) -> Answer {
-    let [at, room] = output(case);
     let lent = Lent::of(&case.bytes);
-    write(room, at, |out, r| put_handshake(out, at, case.word(3), &lent, case.place(2), r))
+    on_case(case, |out, at, r| put_handshake(out, at, case.word(3), &lent, case.place(2), r))
 }
 
 pub fn build(case: &Case) -> Answer {
-    let [at, room] = output(case);
     let config = Config::of(case);
     let [major, minor, patch] = config.version;
     let [kind, high, low, port] = config.address;
-    write(room, at, |out, r| unsafe {
+    on_case(case, |out, at, r| unsafe {
         haspeljo_build(
             out.as_mut_ptr(),
             out.len(),

@@ -1,6 +1,6 @@
 //! Our readers of entries and handshakes.
 
-use super::{call, ended, part_at, reached};
+use super::{call, ended, part_at, reached, reached_number};
 use crate::answer::{Answer, Value};
 use haspeljo_sys::*;
 
@@ -43,13 +43,13 @@ pub fn feature_by_index(s: &[u8], at: usize, index: usize) -> Answer {
 }
 
 pub fn validate_peer(s: &[u8], mainnet: u8) -> Answer {
-    let result = call(|r| unsafe { haspeljo_validate_peer(s.as_ptr(), s.len(), mainnet, r) });
-    reached(result, |[verdict, next]| (Some(Value::Unsigned(verdict)), next))
+    reached_number(call(|r| unsafe { haspeljo_validate_peer(s.as_ptr(), s.len(), mainnet, r) }))
 }
 
 pub fn validate_entry(s: &[u8], at: usize, mainnet: u8) -> Answer {
-    let result = call(|r| unsafe { haspeljo_validate_entry(s.as_ptr(), s.len(), at, mainnet, r) });
-    reached(result, |[verdict, next]| (Some(Value::Unsigned(verdict)), next))
+    reached_number(call(|r| unsafe {
+        haspeljo_validate_entry(s.as_ptr(), s.len(), at, mainnet, r)
+    }))
 }
 
 pub fn rest_api_url(s: &[u8], at: usize) -> Answer {
