@@ -1,15 +1,11 @@
 //! The table of the functions that are compared: one row each, with its oracle, our function and
 //! its cases. Rows stand in groups.
 
-#[cfg(feature = "builds")]
 mod builds;
 mod entries;
 mod leaves;
-#[cfg(feature = "messages")]
 mod messages;
-#[cfg(feature = "sessions")]
 mod sessions;
-#[cfg(feature = "writers")]
 mod writers;
 
 use crate::answer::{Answer, Expected};
@@ -31,18 +27,14 @@ pub struct Function {
     pub kinds: Vec<Kind>,
 }
 
-/// The rows of each group that the archive has.
+/// The rows of each group.
 pub fn groups() -> Vec<(&'static str, Vec<Function>)> {
     vec![
         ("leaves", leaves::rows()),
         ("entries", entries::rows()),
-        #[cfg(feature = "messages")]
         ("messages", messages::rows()),
-        #[cfg(feature = "sessions")]
         ("sessions", sessions::rows()),
-        #[cfg(feature = "writers")]
         ("writers", writers::rows()),
-        #[cfg(feature = "builds")]
         ("builds", builds::rows()),
     ]
 }

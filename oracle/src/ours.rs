@@ -1,54 +1,15 @@
 //! Our library's exported functions, each with a safe form that also tests that a refusal changes
 //! nothing and that a write changes only the bytes it reports.
 
-#[cfg(feature = "builds")]
 pub mod builds;
 pub mod entries;
 pub mod frames;
-#[cfg(feature = "messages")]
 pub mod messages;
-#[cfg(feature = "sessions")]
 pub mod sessions;
-#[cfg(feature = "writers")]
 pub mod writers;
 
 use crate::answer::{Answer, Value};
-
-// Nothing checks these declarations against the library. A slice passes as a pointer and a length,
-// an array as a pointer. 0 is acceptance, any other result document 01's refusal number.
-extern "C" {
-    fn haspeljo_read_byte(s: *const u8, n: usize, at: usize, r: *mut [u64; 2]) -> u8;
-    fn haspeljo_read_vlq(s: *const u8, n: usize, at: usize, r: *mut [u64; 2]) -> u8;
-    fn haspeljo_read_vlq_length(s: *const u8, n: usize, at: usize, r: *mut [u64; 2]) -> u8;
-    fn haspeljo_read_short_string(s: *const u8, n: usize, at: usize, r: *mut [u64; 3]) -> u8;
-    fn haspeljo_read_part(s: *const u8, n: usize, at: usize, part: usize, r: *mut [u64; 3]) -> u8;
-    fn haspeljo_write_vlq(out: *mut u8, n: usize, at: usize, value: u64, r: *mut [u64; 1]) -> u8;
-    fn haspeljo_write_short_string(
-        out: *mut u8,
-        n: usize,
-        at: usize,
-        s: *const u8,
-        s_n: usize,
-        r: *mut [u64; 1],
-    ) -> u8;
-    fn haspeljo_write_part(
-        out: *mut u8,
-        n: usize,
-        at: usize,
-        s: *const u8,
-        s_n: usize,
-        r: *mut [u64; 1],
-    ) -> u8;
-    fn haspeljo_zigzag_encode(n: i32) -> u32;
-    fn haspeljo_zigzag_decode(n: u32) -> i32;
-    fn haspeljo_zigzag_encode_i64(n: i64) -> u64;
-    fn haspeljo_zigzag_decode_i64(n: u64) -> i64;
-    fn haspeljo_is_utf8(s: *const u8, n: usize) -> u8;
-    fn haspeljo_is_bogus_v4(address: u32, port: u16, mainnet: u8) -> u8;
-    fn haspeljo_is_bogus_v6(high: u64, low: u64, port: u16, mainnet: u8) -> u8;
-    fn haspeljo_blake2b256(s: *const u8, n: usize, r: *mut [u8; 32]);
-    fn haspeljo_frame_check(s: *const u8, n: usize, r: *mut [u8; 4]);
-}
+use haspeljo_sys::*;
 
 /// What a result array holds before a call.
 const UNTOUCHED: u64 = 0x5bad_c0de_5bad_c0de;
@@ -77,6 +38,11 @@ fn reached<const N: usize>(
     }
 }
 
+/// The answer of a reader of one number.
+fn reached_number(result: Result<[u64; 2], Answer>) -> Answer {
+    reached(result, |[number, next]| (Some(Value::Unsigned(number)), next))
+}
+
 /// The bytes that begin at `start` and end at `next`, if they are `length` ones of s.
 fn part(s: &[u8], start: u64, length: u64, next: u64) -> Option<Value> {
     let part = s.get(start as usize..next as usize)?;
@@ -97,18 +63,15 @@ fn part_at(s: &[u8], start: u64, length: u64) -> Option<Value> {
 // borrowed for the call, and our functions read and write within these alone.
 
 pub fn read_byte(s: &[u8], at: usize) -> Answer {
-    let result = call(|r| unsafe { haspeljo_read_byte(s.as_ptr(), s.len(), at, r) });
-    reached(result, |[value, next]| (Some(Value::Unsigned(value)), next))
+    reached_number(call(|r| unsafe { haspeljo_read_byte(s.as_ptr(), s.len(), at, r) }))
 }
 
 pub fn read_vlq(s: &[u8], at: usize) -> Answer {
-    let result = call(|r| unsafe { haspeljo_read_vlq(s.as_ptr(), s.len(), at, r) });
-    reached(result, |[value, next]| (Some(Value::Unsigned(value)), next))
+    reached_number(call(|r| unsafe { haspeljo_read_vlq(s.as_ptr(), s.len(), at, r) }))
 }
 
 pub fn read_vlq_length(s: &[u8], at: usize) -> Answer {
-    let result = call(|r| unsafe { haspeljo_read_vlq_length(s.as_ptr(), s.len(), at, r) });
-    reached(result, |[value, next]| (Some(Value::Unsigned(value)), next))
+    reached_number(call(|r| unsafe { haspeljo_read_vlq_length(s.as_ptr(), s.len(), at, r) }))
 }
 
 pub fn read_short_string(s: &[u8], at: usize) -> Answer {

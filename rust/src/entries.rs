@@ -1,7 +1,7 @@
 //! Entries and handshakes.
 
 use crate::types::address_of;
-use crate::{again, is_bogus, part, string, sys, Error, Network, Verdict, Version};
+use crate::{again, calls, is_bogus, part, string, Error, Network, Verdict, Version};
 use std::net::SocketAddr;
 
 /// What a peer says of itself, in a handshake or in a Peers message.
@@ -21,7 +21,7 @@ pub struct Entry<'a> {
 impl<'a> Entry<'a> {
     /// The entry at a place.
     pub fn parse(bytes: &'a [u8], at: usize) -> Result<Entry<'a>, Error> {
-        Ok(Entry::of(bytes, sys::parse_peer_entry(bytes, at)?))
+        Ok(Entry::of(bytes, calls::parse_peer_entry(bytes, at)?))
     }
 
     /// The agent's length byte, right before the agent, is the entry's first byte.
@@ -57,12 +57,12 @@ impl<'a> Entry<'a> {
 
     /// What the first feature 4 gives, if that is a whole string.
     pub fn rest_api_url(&self) -> Option<&'a str> {
-        let [found, start, length, _] = again(sys::rest_api_url(self.bytes, self.start));
+        let [found, start, length, _] = again(calls::rest_api_url(self.bytes, self.start));
         (found == 1).then(|| string(self.bytes, start, length))
     }
 
     pub fn verdict(&self, network: Network) -> Verdict {
-        let [verdict, _] = again(sys::validate_entry(self.bytes, self.start, network));
+        let [verdict, _] = again(calls::validate_entry(self.bytes, self.start, network));
         Verdict::of(verdict)
     }
 
@@ -87,19 +87,19 @@ pub struct Handshake<'a> {
 impl<'a> Handshake<'a> {
     /// The handshake from the first byte on.
     pub fn parse(bytes: &'a [u8]) -> Result<Handshake<'a>, Error> {
-        let r = sys::parse(bytes)?;
+        let r = calls::parse(bytes)?;
         Ok(Handshake { timestamp: r[0], entry: Entry::of(bytes, r) })
     }
 
     /// How many bytes the handshake takes.
     pub fn measure_size(bytes: &[u8]) -> Result<usize, Error> {
-        let [size] = sys::measure_size(bytes)?;
+        let [size] = calls::measure_size(bytes)?;
         Ok(size as usize)
     }
 
     /// The verdict on the handshake from the first byte on.
     pub fn validate_peer(bytes: &[u8], network: Network) -> Result<Verdict, Error> {
-        let [verdict, _] = sys::validate_peer(bytes, network)?;
+        let [verdict, _] = calls::validate_peer(bytes, network)?;
         Ok(Verdict::of(verdict))
     }
 
@@ -127,7 +127,7 @@ impl<'a> Iterator for Features<'a> {
 
     fn next(&mut self) -> Option<Feature<'a>> {
         self.left = self.left.checked_sub(1)?;
-        let [id, start, length, next] = again(sys::read_feature(self.bytes, self.at));
+        let [id, start, length, next] = again(calls::read_feature(self.bytes, self.at));
         self.at = next as usize;
         Some(Feature { id: id as u8, body: part(self.bytes, start, length) })
     }

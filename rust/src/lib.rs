@@ -25,22 +25,22 @@
 #![deny(unsafe_op_in_unsafe_fn)]
 #![deny(unsafe_code)]
 
+#[allow(unsafe_code)]
+mod calls;
 mod entries;
 mod error;
 mod messages;
 mod sessions;
-#[allow(unsafe_code)]
-mod sys;
 mod types;
 pub mod vlq;
 mod writers;
 
+pub use calls::{blake2b256, encode, frame_check, is_utf8};
+pub use calls::{write_get_peers, write_sync_info, write_unknown};
 pub use entries::{Entry, Feature, Features, Handshake};
 pub use error::{Error, Layer, Stop};
 pub use messages::{decode, Entries, Frame, Message, MessageCode, ModifierId, Payload, Payloads};
 pub use sessions::{Ending, Item, Session};
-pub use sys::{blake2b256, encode, frame_check, is_utf8};
-pub use sys::{write_get_peers, write_sync_info, write_unknown};
 pub use types::{is_bogus, Network, ProxyMode, Verdict, Version};
 pub use writers::{build, write_entry, write_handshake, write_inv, write_peers};
 pub use writers::{write_modifier_request, write_modifier_response, EntryValue, HandshakeConfig};

@@ -1,6 +1,6 @@
 //! Frames and messages.
 
-use crate::{again, part, sys, Entry, Error, Network};
+use crate::{again, calls, part, Entry, Error, Network};
 
 /// The code and the body of a frame, and the place after it.
 #[derive(Clone, Copy, Debug, PartialEq, Eq, Hash)]
@@ -12,7 +12,7 @@ pub struct Frame<'a> {
 
 /// The frame at a place.
 pub fn decode(bytes: &[u8], network: Network, at: usize) -> Result<Frame<'_>, Error> {
-    let [code, start, length, end] = sys::decode(bytes, network, at)?;
+    let [code, start, length, end] = calls::decode(bytes, network, at)?;
     Ok(Frame { code: code as u8, body: part(bytes, start, length), end: end as usize })
 }
 
@@ -66,7 +66,7 @@ impl<'a> Message<'a> {
         cap: usize,
         network: Network,
     ) -> Result<Message<'a>, Error> {
-        let [kind, count, bogus, first, _] = sys::from_frame(code, body, cap, network)?;
+        let [kind, count, bogus, first, _] = calls::from_frame(code, body, cap, network)?;
         Ok(Message::of(code, body, [kind, count, bogus, first]))
     }
 
@@ -137,7 +137,7 @@ impl<'a> Iterator for Payloads<'a> {
     fn next(&mut self) -> Option<Payload<'a>> {
         self.left = self.left.checked_sub(1)?;
         let [id, start, length, next, total] =
-            again(sys::read_payload(self.body, self.at, self.total));
+            again(calls::read_payload(self.body, self.at, self.total));
         (self.at, self.total) = (next as usize, total as usize);
         Some((&ids(self.body, id as usize, 1)[0], part(self.body, start, length)))
     }

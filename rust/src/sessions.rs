@@ -1,6 +1,6 @@
 //! The session walk.
 
-use crate::{again, part, sys, Error, Handshake, Layer, Message, Network, Stop, Verdict};
+use crate::{again, calls, part, Error, Handshake, Layer, Message, Network, Stop, Verdict};
 
 /// A handshake or a message of a session, with the places where it starts and ends.
 #[derive(Clone, Debug)]
@@ -82,7 +82,7 @@ impl<'a> Iterator for Session<'a> {
 
     fn next(&mut self) -> Option<Item<'a>> {
         let State::At(at) = self.state else { return None };
-        let item = match again(sys::step(self.bytes, self.network, self.cap, at)) {
+        let item = match again(calls::step(self.bytes, self.network, self.cap, at)) {
             [1, start, end, verdict, ..] => self.handshake([start, end, verdict]),
             [2, start, end, code, place, length, held @ .., _] => {
                 self.message([start, end, code, place, length], held)

@@ -1,6 +1,6 @@
 //! Networks, versions, verdicts, addresses.
 
-use crate::sys;
+use crate::calls;
 use std::fmt;
 use std::net::{IpAddr, Ipv4Addr, Ipv6Addr, SocketAddr};
 
@@ -67,10 +67,10 @@ impl Verdict {
 /// Whether no peer of the network can have the address.
 pub fn is_bogus(address: IpAddr, network: Network) -> bool {
     match address {
-        IpAddr::V4(ip) => sys::is_bogus_v4(ip.to_bits(), network),
+        IpAddr::V4(ip) => calls::is_bogus_v4(ip.to_bits(), network),
         IpAddr::V6(ip) => {
             let (high, low) = halves(ip);
-            sys::is_bogus_v6(high, low, network)
+            calls::is_bogus_v6(high, low, network)
         }
     }
 }

@@ -1,7 +1,7 @@
 //! Writers from values. Each starts at a place of an output and answers the place after what it
 //! wrote; a refusal leaves the output as it was.
 
-use crate::sys::{self, Lent, Listed};
+use crate::calls::{self, Lent, Listed};
 use crate::types::address_numbers;
 use crate::{Error, ModifierId, Network, Payload, ProxyMode, Version};
 use std::net::{IpAddr, SocketAddr};
@@ -34,12 +34,12 @@ pub struct HandshakeConfig<'a> {
 
 /// A handshake with the features Mode and Session.
 pub fn build(out: &mut [u8], at: usize, config: &HandshakeConfig) -> Result<usize, Error> {
-    sys::build(out, at, config, address_numbers(config.declared_address))
+    calls::build(out, at, config, address_numbers(config.declared_address))
 }
 
 pub fn write_entry(out: &mut [u8], at: usize, entry: &EntryValue) -> Result<usize, Error> {
     let tables = Tables::of(&[*entry])?;
-    sys::write_entry(out, at, tables.lent(), 0)
+    calls::write_entry(out, at, tables.lent(), 0)
 }
 
 pub fn write_handshake(
@@ -49,7 +49,7 @@ pub fn write_handshake(
     entry: &EntryValue,
 ) -> Result<usize, Error> {
     let tables = Tables::of(&[*entry])?;
-    sys::write_handshake(out, at, timestamp, tables.lent(), 0)
+    calls::write_handshake(out, at, timestamp, tables.lent(), 0)
 }
 
 /// A Peers message of at most `cap` entries.
@@ -61,7 +61,7 @@ pub fn write_peers(
     entries: &[EntryValue],
 ) -> Result<usize, Error> {
     let tables = Tables::of(entries)?;
-    sys::write_peers(out, at, network, cap, tables.lent())
+    calls::write_peers(out, at, network, cap, tables.lent())
 }
 
 pub fn write_modifier_request(
@@ -94,7 +94,7 @@ fn write_ids(
 ) -> Result<usize, Error> {
     let buffer = ids.as_flattened();
     let table: Vec<u32> = (0..buffer.len()).step_by(32).map(number).collect::<Result<_, _>>()?;
-    sys::write_listed(out, at, network, listed, modifier_type, &table, buffer)
+    calls::write_listed(out, at, network, listed, modifier_type, &table, buffer)
 }
 
 pub fn write_modifier_response(
@@ -111,7 +111,7 @@ pub fn write_modifier_response(
         table.extend([id_place, place, length]);
     }
     let listed = Listed::ModifierResponse;
-    sys::write_listed(out, at, network, listed, modifier_type, &table, &buffer)
+    calls::write_listed(out, at, network, listed, modifier_type, &table, &buffer)
 }
 
 /// A table's number is a u32. A larger one is refused as a broken row is.
@@ -202,9 +202,9 @@ mod tests {
         let mut out = [0x5a; 200];
         let lent = Lent { entries, features, buffer };
         let answers = [
-            sys::write_entry(&mut out, 0, lent, 0),
-            sys::write_handshake(&mut out, 0, 1, lent, 0),
-            sys::write_peers(&mut out, 0, Network::Mainnet, 64, lent),
+            calls::write_entry(&mut out, 0, lent, 0),
+            calls::write_handshake(&mut out, 0, 1, lent, 0),
+            calls::write_peers(&mut out, 0, Network::Mainnet, 64, lent),
         ];
         assert_eq!(out, [0x5a; 200]);
         assert!(answers.iter().all(|answer| *answer == answers[0]));
@@ -242,7 +242,7 @@ mod tests {
             (Listed::ModifierResponse, vec![0, 32, 9], Error::Outside),
         ] {
             let answer =
-                sys::write_listed(&mut out, 0, Network::Mainnet, listed, 2, &table, &buffer);
+                calls::write_listed(&mut out, 0, Network::Mainnet, listed, 2, &table, &buffer);
             assert_eq!(answer, Err(error));
         }
         assert_eq!(out, [0x5a; 200]);

@@ -1,52 +1,11 @@
 //! Our writers of handshakes.
 
-use super::write;
-use super::writers::output;
+use super::writers::on_case;
 use crate::answer::Answer;
 use crate::case::Case;
 use crate::rust::builds::Config;
 use crate::rust::tables::Lent;
-
-extern "C" {
-    fn haspeljo_write_handshake(
-        out: *mut u8,
-        n: usize,
-        at: usize,
-        timestamp: u64,
-        entries: *const u32,
-        entries_n: usize,
-        features: *const u32,
-        features_n: usize,
-        buffer: *const u8,
-        buffer_n: usize,
-        row: usize,
-        r: *mut [u64; 1],
-    ) -> u8;
-    fn haspeljo_build(
-        out: *mut u8,
-        n: usize,
-        at: usize,
-        mainnet: u8,
-        light: u8,
-        state_type: u8,
-        verifying: u8,
-        blocks_to_keep: i32,
-        major: u8,
-        minor: u8,
-        patch: u8,
-        kind: u8,
-        high: u64,
-        low: u64,
-        port: u16,
-        timestamp: u64,
-        session_id: i64,
-        agent: *const u8,
-        agent_n: usize,
-        name: *const u8,
-        name_n: usize,
-        r: *mut [u64; 1],
-    ) -> u8;
-}
+use haspeljo_sys::{haspeljo_build, haspeljo_write_handshake};
 
 /// A handshake of the entry in a row, into a lent output from a place: r is where it ends, and the
 /// result 0 or a refusal number.
@@ -78,17 +37,15 @@ pub fn put_handshake(
 }
 
 pub fn write_handshake(case: &Case) -> Answer {
-    let [at, room] = output(case);
     let lent = Lent::of(&case.bytes);
-    write(room, at, |out, r| put_handshake(out, at, case.word(3), &lent, case.place(2), r))
+    on_case(case, |out, at, r| put_handshake(out, at, case.word(3), &lent, case.place(2), r))
 }
 
 pub fn build(case: &Case) -> Answer {
-    let [at, room] = output(case);
     let config = Config::of(case);
     let [major, minor, patch] = config.version;
     let [kind, high, low, port] = config.address;
-    write(room, at, |out, r| unsafe {
+    on_case(case, |out, at, r| unsafe {
         haspeljo_build(
             out.as_mut_ptr(),
             out.len(),

@@ -1,30 +1,8 @@
 //! Our readers of entries and handshakes.
 
-use super::{call, ended, part_at, reached};
+use super::{call, ended, part_at, reached, reached_number};
 use crate::answer::{Answer, Value};
-
-extern "C" {
-    fn haspeljo_parse(s: *const u8, n: usize, r: *mut [u64; 15]) -> u8;
-    fn haspeljo_measure_size(s: *const u8, n: usize, r: *mut [u64; 1]) -> u8;
-    fn haspeljo_parse_peer_entry(s: *const u8, n: usize, at: usize, r: *mut [u64; 15]) -> u8;
-    fn haspeljo_read_feature(s: *const u8, n: usize, at: usize, r: *mut [u64; 4]) -> u8;
-    fn haspeljo_feature_by_index(
-        s: *const u8,
-        n: usize,
-        at: usize,
-        index: usize,
-        r: *mut [u64; 4],
-    ) -> u8;
-    fn haspeljo_validate_peer(s: *const u8, n: usize, mainnet: u8, r: *mut [u64; 2]) -> u8;
-    fn haspeljo_validate_entry(
-        s: *const u8,
-        n: usize,
-        at: usize,
-        mainnet: u8,
-        r: *mut [u64; 2],
-    ) -> u8;
-    fn haspeljo_rest_api_url(s: *const u8, n: usize, at: usize, r: *mut [u64; 4]) -> u8;
-}
+use haspeljo_sys::*;
 
 pub fn parse(s: &[u8]) -> Answer {
     reached(parsed(s), |r| (entry(s, r), r[14]))
@@ -65,13 +43,13 @@ pub fn feature_by_index(s: &[u8], at: usize, index: usize) -> Answer {
 }
 
 pub fn validate_peer(s: &[u8], mainnet: u8) -> Answer {
-    let result = call(|r| unsafe { haspeljo_validate_peer(s.as_ptr(), s.len(), mainnet, r) });
-    reached(result, |[verdict, next]| (Some(Value::Unsigned(verdict)), next))
+    reached_number(call(|r| unsafe { haspeljo_validate_peer(s.as_ptr(), s.len(), mainnet, r) }))
 }
 
 pub fn validate_entry(s: &[u8], at: usize, mainnet: u8) -> Answer {
-    let result = call(|r| unsafe { haspeljo_validate_entry(s.as_ptr(), s.len(), at, mainnet, r) });
-    reached(result, |[verdict, next]| (Some(Value::Unsigned(verdict)), next))
+    reached_number(call(|r| unsafe {
+        haspeljo_validate_entry(s.as_ptr(), s.len(), at, mainnet, r)
+    }))
 }
 
 pub fn rest_api_url(s: &[u8], at: usize) -> Answer {

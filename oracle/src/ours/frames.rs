@@ -2,10 +2,7 @@
 
 use super::{call, ended, reached};
 use crate::answer::Answer;
-
-extern "C" {
-    fn haspeljo_decode(s: *const u8, n: usize, mainnet: u8, at: usize, r: *mut [u64; 4]) -> u8;
-}
+use haspeljo_sys::haspeljo_decode;
 
 pub fn decode(s: &[u8], at: usize, mainnet: u8) -> Answer {
     reached(decoded(s, at, mainnet), |r| (ended(s, r), r[3]))

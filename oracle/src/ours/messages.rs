@@ -3,40 +3,7 @@
 use super::entries::{self, entry_at};
 use super::{call, part, part_at, reached};
 use crate::answer::{Answer, Value};
-
-extern "C" {
-    fn haspeljo_from_frame(
-        code: u8,
-        body: *const u8,
-        n: usize,
-        cap: usize,
-        mainnet: u8,
-        r: *mut [u64; 5],
-    ) -> u8;
-    fn haspeljo_parse_peers_body(
-        body: *const u8,
-        n: usize,
-        cap: usize,
-        mainnet: u8,
-        r: *mut [u64; 5],
-    ) -> u8;
-    fn haspeljo_entry_by_index(
-        body: *const u8,
-        n: usize,
-        cap: usize,
-        index: usize,
-        r: *mut [u64; 15],
-    ) -> u8;
-    fn haspeljo_id_by_index(body: *const u8, n: usize, index: usize, r: *mut [u64; 1]) -> u8;
-    fn haspeljo_read_payload(
-        body: *const u8,
-        n: usize,
-        at: usize,
-        total: usize,
-        r: *mut [u64; 5],
-    ) -> u8;
-    fn haspeljo_payload_by_index(body: *const u8, n: usize, index: usize, r: *mut [u64; 4]) -> u8;
-}
+use haspeljo_sys::*;
 
 /// A message, with all of its items.
 pub fn from_frame(code: u8, body: &[u8], cap: usize, mainnet: u8) -> Answer {

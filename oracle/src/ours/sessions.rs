@@ -4,17 +4,7 @@
 use super::{call, entries, messages};
 use crate::answer::{Answer, Value};
 use crate::rust::sessions::{message, stopped};
-
-extern "C" {
-    fn haspeljo_step(
-        s: *const u8,
-        n: usize,
-        mainnet: u8,
-        cap: usize,
-        at: usize,
-        r: *mut [u64; 11],
-    ) -> u8;
-}
+use haspeljo_sys::haspeljo_step;
 
 /// What the first number of a step says.
 const END: u64 = 0;

@@ -1,135 +1,15 @@
-//! Our writers of entries and whole frames: as they are, and on a case.
+//! Our writers of entries and whole frames on a case, and as they are where the benchmark times them.
 
 use super::write;
 use crate::answer::Answer;
 use crate::case::{tables, Case};
 use crate::rust::tables::Lent;
-
-extern "C" {
-    fn haspeljo_write_entry(
-        out: *mut u8,
-        n: usize,
-        at: usize,
-        entries: *const u32,
-        entries_n: usize,
-        features: *const u32,
-        features_n: usize,
-        buffer: *const u8,
-        buffer_n: usize,
-        row: usize,
-        r: *mut [u64; 1],
-    ) -> u8;
-    fn haspeljo_write_peers(
-        out: *mut u8,
-        n: usize,
-        at: usize,
-        mainnet: u8,
-        cap: usize,
-        entries: *const u32,
-        entries_n: usize,
-        features: *const u32,
-        features_n: usize,
-        buffer: *const u8,
-        buffer_n: usize,
-        r: *mut [u64; 1],
-    ) -> u8;
-    fn haspeljo_write_get_peers(
-        out: *mut u8,
-        n: usize,
-        at: usize,
-        mainnet: u8,
-        r: *mut [u64; 1],
-    ) -> u8;
-    fn haspeljo_write_modifier_request(
-        out: *mut u8,
-        n: usize,
-        at: usize,
-        mainnet: u8,
-        kind: u8,
-        ids: *const u32,
-        ids_n: usize,
-        buffer: *const u8,
-        buffer_n: usize,
-        r: *mut [u64; 1],
-    ) -> u8;
-    fn haspeljo_write_modifier_response(
-        out: *mut u8,
-        n: usize,
-        at: usize,
-        mainnet: u8,
-        kind: u8,
-        payloads: *const u32,
-        payloads_n: usize,
-        buffer: *const u8,
-        buffer_n: usize,
-        r: *mut [u64; 1],
-    ) -> u8;
-    fn haspeljo_write_inv(
-        out: *mut u8,
-        n: usize,
-        at: usize,
-        mainnet: u8,
-        kind: u8,
-        ids: *const u32,
-        ids_n: usize,
-        buffer: *const u8,
-        buffer_n: usize,
-        r: *mut [u64; 1],
-    ) -> u8;
-    fn haspeljo_write_sync_info(
-        out: *mut u8,
-        n: usize,
-        at: usize,
-        mainnet: u8,
-        body: *const u8,
-        body_n: usize,
-        r: *mut [u64; 1],
-    ) -> u8;
-    fn haspeljo_write_unknown(
-        out: *mut u8,
-        n: usize,
-        at: usize,
-        mainnet: u8,
-        code: u8,
-        body: *const u8,
-        body_n: usize,
-        r: *mut [u64; 1],
-    ) -> u8;
-    fn haspeljo_encode(
-        out: *mut u8,
-        n: usize,
-        at: usize,
-        mainnet: u8,
-        code: u8,
-        body: *const u8,
-        body_n: usize,
-        r: *mut [u64; 1],
-    ) -> u8;
-}
+use haspeljo_sys::*;
 
 // SAFETY, of every call below: as in the module above; a table passes as a pointer and its length.
 
 // A writer as it is writes into a lent output from a place; r is where it ends, and the result 0 or a
 // refusal number.
-
-pub fn put_entry(out: &mut [u8], at: usize, lent: &Lent, row: usize, r: &mut [u64; 1]) -> u8 {
-    let Lent { entries, features, buffer } = lent;
-    unsafe {
-        haspeljo_write_entry(
-            out.as_mut_ptr(),
-            out.len(),
-            at,
-            entries.as_ptr(),
-            entries.len(),
-            features.as_ptr(),
-            features.len(),
-            buffer.as_ptr(),
-            buffer.len(),
-            row,
-            r,
-        )
-    }
-}
 
 pub fn put_peers(
     out: &mut [u8],
@@ -223,28 +103,40 @@ pub fn put_sync_info(out: &mut [u8], at: usize, mainnet: u8, body: &[u8], r: &mu
     unsafe { haspeljo_write_sync_info(out.as_mut_ptr(), out.len(), at, mainnet, start, length, r) }
 }
 
-/// The place and the length of a case's output.
-pub fn output(case: &Case) -> [usize; 2] {
-    [case.place(0), case.place(1)]
+/// A writer on the output of a case, whose first numbers are the place and the room.
+pub fn on_case(case: &Case, f: impl FnOnce(&mut [u8], usize, &mut [u64; 1]) -> u8) -> Answer {
+    let [at, room] = [case.place(0), case.place(1)];
+    write(room, at, |out, r| f(out, at, r))
 }
 
 pub fn write_entry(case: &Case) -> Answer {
-    let [at, room] = output(case);
-    let lent = Lent::of(&case.bytes);
-    write(room, at, |out, r| put_entry(out, at, &lent, case.place(2), r))
+    let Lent { entries, features, buffer } = Lent::of(&case.bytes);
+    on_case(case, |out, at, r| unsafe {
+        haspeljo_write_entry(
+            out.as_mut_ptr(),
+            out.len(),
+            at,
+            entries.as_ptr(),
+            entries.len(),
+            features.as_ptr(),
+            features.len(),
+            buffer.as_ptr(),
+            buffer.len(),
+            case.place(2),
+            r,
+        )
+    })
 }
 
 pub fn write_peers(case: &Case) -> Answer {
-    let [at, room] = output(case);
     let lent = Lent::of(&case.bytes);
-    write(room, at, |out, r| put_peers(out, at, case.word(2) as u8, case.place(3), &lent, r))
+    on_case(case, |out, at, r| put_peers(out, at, case.word(2) as u8, case.place(3), &lent, r))
 }
 
 fn one_table(case: &Case, writer: OneTable) -> Answer {
-    let [at, room] = output(case);
     let ([table], buffer) = tables::<1>(&case.bytes);
     let typed = Typed { kind: case.word(3) as u8, table: &table, buffer };
-    write(room, at, |out, r| put_typed(writer, out, at, case.word(2) as u8, typed, r))
+    on_case(case, |out, at, r| put_typed(writer, out, at, case.word(2) as u8, typed, r))
 }
 
 pub fn write_modifier_request(case: &Case) -> Answer {
@@ -260,15 +152,13 @@ pub fn write_inv(case: &Case) -> Answer {
 }
 
 pub fn write_get_peers(case: &Case) -> Answer {
-    let [at, room] = output(case);
-    write(room, at, |out, r| unsafe {
+    on_case(case, |out, at, r| unsafe {
         haspeljo_write_get_peers(out.as_mut_ptr(), out.len(), at, case.word(2) as u8, r)
     })
 }
 
 pub fn write_sync_info(case: &Case) -> Answer {
-    let [at, room] = output(case);
-    write(room, at, |out, r| put_sync_info(out, at, case.word(2) as u8, &case.bytes, r))
+    on_case(case, |out, at, r| put_sync_info(out, at, case.word(2) as u8, &case.bytes, r))
 }
 
 /// A writer of a body as it is: output, network, code, body, result.
@@ -276,10 +166,9 @@ type WholeBody =
     unsafe extern "C" fn(*mut u8, usize, usize, u8, u8, *const u8, usize, *mut [u64; 1]) -> u8;
 
 fn whole_body(case: &Case, writer: WholeBody) -> Answer {
-    let [at, room] = output(case);
     let [mainnet, code] = [case.word(2) as u8, case.word(3) as u8];
     let body = &case.bytes;
-    write(room, at, |out, r| unsafe {
+    on_case(case, |out, at, r| unsafe {
         writer(out.as_mut_ptr(), out.len(), at, mainnet, code, body.as_ptr(), body.len(), r)
     })
 }

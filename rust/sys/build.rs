@@ -1,20 +1,23 @@
-//! Links the static library of the crate `exports`.
+//! Links the static library of the crate `exports`, and names its archive to the build scripts of
+//! crates that depend on this one.
 
 use std::env;
 use std::path::PathBuf;
 
 /// Where `rt staticlib exports` puts its archive unless `EXPORTS_DIR` says otherwise, seen from
-/// this folder.
+/// the folder `rust`.
 const DEFAULT: &str = "../target/staticlib";
 
 fn main() {
     println!("cargo:rerun-if-env-changed=EXPORTS_DIR");
     let folder = env::var("EXPORTS_DIR").unwrap_or(DEFAULT.into());
-    let folder = PathBuf::from(env::var("CARGO_MANIFEST_DIR").unwrap()).join(folder);
+    let here = PathBuf::from(env::var("CARGO_MANIFEST_DIR").unwrap());
+    let folder = here.parent().unwrap().join(folder);
     let archive = folder.join("libexports.a");
     let shown = archive.display();
     assert!(archive.is_file(), "{shown} is missing: run `rt staticlib exports` in the repository");
     println!("cargo:rerun-if-changed={shown}");
+    println!("cargo:archive={shown}");
     println!("cargo:rustc-link-search=native={}", folder.display());
     println!("cargo:rustc-link-lib=static=exports");
 }
