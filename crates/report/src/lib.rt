@@ -6,7 +6,7 @@ ghost use Rattle.wire.specs.Output.{put};
 ghost use Rattle.walk.specs.Session.{sessionStep, sessionReading};
 ghost use Rattle.walk_read.specs.Steps.{stepOf};
 ghost use Rattle.report_lines.specs.StepLines.{lineOf};
-ghost use Rattle.report.specs.Report.{nextOf};
+ghost use Rattle.report.specs.Report.{nextOf, sessionLines};
 use libc::STDOUT_FILENO;
 use types::Network;
 use types::StreamPlace;
@@ -17,6 +17,23 @@ pub struct Next {
     pub len: usize,
     pub at: StreamPlace,
     pub more: bool,
+}
+
+// The longest input of the program `session` that it reports on.
+const MAX_INPUT: usize = 65536;
+
+// The Peers cap of the program `session`.
+const CAP: usize = 64;
+
+// Prints what the program `session` prints of its input, and gives how many lines that is: `long` where the input is too long, otherwise its report.
+pub fn print_session(s: &[u8]) -> usize
+    ensures { λ r. ⌜ r ≡ sessionLines (now (s .entry)) ⌝ }
+{
+    if MAX_INPUT < s.len() {
+        io::write_all(STDOUT_FILENO, b"long\n");
+        return 1;
+    }
+    print_report(s, Network::Mainnet, CAP)
 }
 
 // Prints the report of a session, a line for each item and one for how it ends, and gives how many lines there are.

@@ -1,13 +1,11 @@
-// Reads sessions of mainnet from standard input, each behind its length (two bytes, little-endian), and prints their reports one after the other.
+// Reads inputs of the program `session` from standard input, each behind its length (three bytes, little-endian), and prints what it prints of them, one
+// after the other.
 ghost use Prim.Native.Nat.{_≤_, _<_};
 ghost use lib.ListN.{length};
 use libc::STDIN_FILENO;
-use types::Network;
-
-const CAP: usize = 64;
 
 fn main() {
-    let mut sessions = io::large_buffer();
+    let mut sessions = [0u8; 262144];
     let n = io::read_full(STDIN_FILENO, &mut sessions);
     print_reports(&sessions[..n]);
 }
@@ -17,10 +15,10 @@ fn print_reports(s: &[u8]) {
     let mut at = 0;
     while at < s.len() {
         let end = session_end(s, at);
-        if end <= at + 1 {
+        if end <= at + 2 {
             return;
         }
-        report::print_report(&s[at + 2..end], Network::Mainnet, CAP);
+        report::print_session(&s[at + 3..end]);
         at = end;
     }
 }
@@ -31,11 +29,11 @@ fn session_end(s: &[u8], at: usize) -> usize
     ensures { λ r. ⌜ r ≤ length (now (s .entry)) ⌝ }
 {
     let left = s.len() - at;
-    if left < 2 {
+    if left < 3 {
         return 0;
     }
-    let n = wide(s[at]) + wide(s[at + 1]) * 256;
-    if n <= left - 2 { at + 2 + n } else { 0 }
+    let n = wide(s[at]) + wide(s[at + 1]) * 256 + wide(s[at + 2]) * 65536;
+    if n <= left - 3 { at + 3 + n } else { 0 }
 }
 
 fn wide(x: u8) -> usize
