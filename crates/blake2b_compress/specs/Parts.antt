@@ -5,28 +5,41 @@ use Prim.Native.Nat.{ℕ, _+_, _%_, _^_}
 use lib.ListN.{getD, set}
 use Rattle.blake2b.specs.Blake2b.{w, _⊕_, _>>_, _>>>_, _!_, for, IV, SIGMA, G, round, flagged}
 
--- half of G: its lines with one message word, rotating by p and by q
-unfoldable pub half : List ℕ → ℕ → ℕ → ℕ → ℕ → ℕ → ℕ → ℕ → List ℕ
-half v a b c d x p q =
-    let v : List ℕ = set v a ((v ! a + v ! b + x) % 2 ^ w) in
-    let v : List ℕ = set v d ((v ! d ⊕ v ! a) >>> p) in
+-- half of each of the four calls of G on the columns, and of the four on the diagonals, whose v[a] are v[0] to v[3]: their lines with one message
+-- word, rotating by p and by q, in three passes over the four
+
+-- v[a] := v[a] + x
+unfoldable pub addWords : List ℕ → ℕ → ℕ → ℕ → ℕ → List ℕ
+addWords v x0 x1 x2 x3 =
+    let v : List ℕ = set v 0 ((v ! 0 + x0) % 2 ^ w) in
+    let v : List ℕ = set v 1 ((v ! 1 + x1) % 2 ^ w) in
+    let v : List ℕ = set v 2 ((v ! 2 + x2) % 2 ^ w) in
+    set v 3 ((v ! 3 + x3) % 2 ^ w)
+
+-- v[a] := v[a] + v[b], v[d] := v[d] ^ v[a]
+unfoldable pub halfStart : List ℕ → ℕ → ℕ → ℕ → List ℕ
+halfStart v a b d =
+    let v : List ℕ = set v a ((v ! a + v ! b) % 2 ^ w) in
+    set v d (v ! d ⊕ v ! a)
+
+-- v[d] := v[d] >>> p, v[c] := v[c] + v[d], v[b] := (v[b] ^ v[c]) >>> q
+unfoldable pub halfEnd : List ℕ → ℕ → ℕ → ℕ → ℕ → ℕ → List ℕ
+halfEnd v b c d p q =
+    let v : List ℕ = set v d (v ! d >>> p) in
     let v : List ℕ = set v c ((v ! c + v ! d) % 2 ^ w) in
     set v b ((v ! b ⊕ v ! c) >>> q)
 
--- half of each of the four calls of G on the columns, and of the four on the diagonals
 unfoldable pub halfColumns : List ℕ → ℕ → ℕ → ℕ → ℕ → ℕ → ℕ → List ℕ
 halfColumns v x0 x1 x2 x3 p q =
-    let v : List ℕ = half v 0 4 8 12 x0 p q in
-    let v : List ℕ = half v 1 5 9 13 x1 p q in
-    let v : List ℕ = half v 2 6 10 14 x2 p q in
-    half v 3 7 11 15 x3 p q
+    let v : List ℕ = addWords v x0 x1 x2 x3 in
+    let v : List ℕ = halfStart (halfStart (halfStart (halfStart v 0 4 12) 1 5 13) 2 6 14) 3 7 15 in
+    halfEnd (halfEnd (halfEnd (halfEnd v 4 8 12 p q) 5 9 13 p q) 6 10 14 p q) 7 11 15 p q
 
 unfoldable pub halfDiagonals : List ℕ → ℕ → ℕ → ℕ → ℕ → ℕ → ℕ → List ℕ
 halfDiagonals v x0 x1 x2 x3 p q =
-    let v : List ℕ = half v 0 5 10 15 x0 p q in
-    let v : List ℕ = half v 1 6 11 12 x1 p q in
-    let v : List ℕ = half v 2 7 8 13 x2 p q in
-    half v 3 4 9 14 x3 p q
+    let v : List ℕ = addWords v x0 x1 x2 x3 in
+    let v : List ℕ = halfStart (halfStart (halfStart (halfStart v 0 5 15) 1 6 12) 2 7 13) 3 4 14 in
+    halfEnd (halfEnd (halfEnd (halfEnd v 5 10 15 p q) 6 11 12 p q) 7 8 13 p q) 4 9 14 p q
 
 -- the schedule as it is kept: the ten rows of SIGMA one after the other
 unfoldable pub joined : List (List ℕ) → List ℕ

@@ -3,7 +3,7 @@ ghost use mathlib.Core.List.{_++_};
 ghost use mathlib.Core.Path.{_≡_};
 ghost use Prim.Native.Nat.{_+_, _*_, _%_, _^_, _<_};
 ghost use Rattle.blake2b.specs.Blake2b.{_>>>_, IV as Blake2b·IV, round, for, F};
-ghost use Rattle.blake2b_compress.specs.Parts.{half, halfColumns, halfDiagonals, kept, onColumns, onDiagonals, four, work, xored};
+ghost use Rattle.blake2b_compress.specs.Parts.{halfColumns, halfDiagonals, addWords, halfStart, halfEnd, kept, onColumns, onDiagonals, four, work, xored};
 use crate::schedule::Schedule;
 use crate::schedule::schedule;
 use crate::schedule::select;
@@ -135,8 +135,8 @@ fn rounds_8_to_11(v: [u64; 16], m: &[u64; 16], s: &Schedule) -> [u64; 16]
     diagonals(v, m, s, 11)
 }
 
-// The four calls of G on the columns are done by halves: none touches a word of another, and the processor has four
-// chains to work on at a time.
+// The four calls of G on the columns are done by halves, and a half of the four in three passes: none touches a word of another, and the
+// processor has four chains to work on at a time.
 fn columns(v: [u64; 16], m: &[u64; 16], s: &Schedule, i: usize) -> [u64; 16]
     requires { ⌜ now s ≡ kept ⌝ }
     ensures { λ r. ⌜ r ≡ onColumns (now (m .entry)) i v ⌝ }
@@ -189,49 +189,66 @@ fn half_columns(v: [u64; 16], x0: u64, x1: u64, x2: u64, x3: u64, p: u64, q: u64
     requires { ⌜ (0 < p) × (p < 64) × (0 < q) × (q < 64) ⌝ }
     ensures { λ r. ⌜ r ≡ halfColumns v x0 x1 x2 x3 p q ⌝ }
 {
-    let v = half_mix(v, 0, 4, 8, 12, x0, p, q);
-    let v = half_mix(v, 1, 5, 9, 13, x1, p, q);
-    let v = half_mix(v, 2, 6, 10, 14, x2, p, q);
-    half_mix(v, 3, 7, 11, 15, x3, p, q)
+    let v = add_words(v, x0, x1, x2, x3);
+    let v = half_start(v, 0, 4, 12);
+    let v = half_start(v, 1, 5, 13);
+    let v = half_start(v, 2, 6, 14);
+    let v = half_start(v, 3, 7, 15);
+    let v = half_end(v, 4, 8, 12, p, q);
+    let v = half_end(v, 5, 9, 13, p, q);
+    let v = half_end(v, 6, 10, 14, p, q);
+    half_end(v, 7, 11, 15, p, q)
 }
 
 fn half_diagonals(v: [u64; 16], x0: u64, x1: u64, x2: u64, x3: u64, p: u64, q: u64) -> [u64; 16]
     requires { ⌜ (0 < p) × (p < 64) × (0 < q) × (q < 64) ⌝ }
     ensures { λ r. ⌜ r ≡ halfDiagonals v x0 x1 x2 x3 p q ⌝ }
 {
-    let v = half_mix(v, 0, 5, 10, 15, x0, p, q);
-    let v = half_mix(v, 1, 6, 11, 12, x1, p, q);
-    let v = half_mix(v, 2, 7, 8, 13, x2, p, q);
-    half_mix(v, 3, 4, 9, 14, x3, p, q)
+    let v = add_words(v, x0, x1, x2, x3);
+    let v = half_start(v, 0, 5, 15);
+    let v = half_start(v, 1, 6, 12);
+    let v = half_start(v, 2, 7, 13);
+    let v = half_start(v, 3, 4, 14);
+    let v = half_end(v, 5, 10, 15, p, q);
+    let v = half_end(v, 6, 11, 12, p, q);
+    let v = half_end(v, 7, 8, 13, p, q);
+    half_end(v, 4, 9, 14, p, q)
 }
 
-// The four lines of G with one message word.
-fn half_mix(
-    v0: [u64; 16],
-    a: usize,
-    b: usize,
-    c: usize,
-    d: usize,
-    x: u64,
-    p: u64,
-    q: u64,
-) -> [u64; 16]
-    requires { ⌜ (a < 16) × (b < 16) × (c < 16) × (d < 16) ⌝ }
-    requires { ⌜ (0 < p) × (p < 64) × (0 < q) × (q < 64) ⌝ }
-    ensures { λ r. ⌜ r ≡ half v0 a b c d x p q ⌝ }
+// The message words of four calls of G, whose v[a] are v[0] to v[3].
+fn add_words(v0: [u64; 16], x0: u64, x1: u64, x2: u64, x3: u64) -> [u64; 16]
+    ensures { λ r. ⌜ r ≡ addWords v0 x0 x1 x2 x3 ⌝ }
 {
     let mut v = v0;
-    v[a] = add3(v[a], v[b], x);
-    v[d] = rotr(v[d] ^ v[a], p);
-    v[c] = std::num::wrapping_add_u64(v[c], v[d]);
-    v[b] = rotr(v[b] ^ v[c], q);
+    v[0] = std::num::wrapping_add_u64(v[0], x0);
+    v[1] = std::num::wrapping_add_u64(v[1], x1);
+    v[2] = std::num::wrapping_add_u64(v[2], x2);
+    v[3] = std::num::wrapping_add_u64(v[3], x3);
     v
 }
 
-fn add3(a: u64, b: u64, c: u64) -> u64
-    ensures { λ r. ⌜ r ≡ (a + b + c) % 2 ^ 64 ⌝ }
+// Of half of G what is left of its first line, and the exclusive or of its second.
+fn half_start(v0: [u64; 16], a: usize, b: usize, d: usize) -> [u64; 16]
+    requires { ⌜ (a < 16) × (b < 16) × (d < 16) ⌝ }
+    ensures { λ r. ⌜ r ≡ halfStart v0 a b d ⌝ }
 {
-    std::num::wrapping_add_u64(std::num::wrapping_add_u64(a, b), c)
+    let mut v = v0;
+    v[a] = std::num::wrapping_add_u64(v[a], v[b]);
+    v[d] = v[d] ^ v[a];
+    v
+}
+
+// The rotation of the second line of half of G, and its other two lines.
+fn half_end(v0: [u64; 16], b: usize, c: usize, d: usize, p: u64, q: u64) -> [u64; 16]
+    requires { ⌜ (b < 16) × (c < 16) × (d < 16) ⌝ }
+    requires { ⌜ (0 < p) × (p < 64) × (0 < q) × (q < 64) ⌝ }
+    ensures { λ r. ⌜ r ≡ halfEnd v0 b c d p q ⌝ }
+{
+    let mut v = v0;
+    v[d] = rotr(v[d], p);
+    v[c] = std::num::wrapping_add_u64(v[c], v[d]);
+    v[b] = rotr(v[b] ^ v[c], q);
+    v
 }
 
 // x >>> n.
