@@ -1,4 +1,4 @@
--- The caller's side of a reading function of `BodyReader`: a reader in a local is lent for the call, and comes back as the function moved it.
+-- The caller's side of a reading function of `BodyReader` that takes nothing beside the reader: a reader in a local is lent for the call, and comes back as the function moved it.
 -- The reader's body is lent for κ, which must outlive the loan: the loan is for ν ∷ κ, where ν is a lifetime that the caller makes for the call. Half of κ's token goes into the loan's, the other half beside it.
 --     Lies κ b d       the reader d lies in the local at b, with what it owns
 --     lends            what is asked of the caller at the call, and what it keeps meanwhile (`Kept`)
@@ -36,10 +36,11 @@ use Rattle.body_reader.specs.Reading.{readBy, movedBy}
 use Rattle.body_reader.specs.declared.BodyReader.{BodyReader}
 use Rattle.body_reader.proofs.BodyReader as T
 use Rattle.body_reader.proofs.BodyReader.Laws as T′
+use Rattle.body_reader.proofs.Beside.{none}
 use Rattle.body_reader.proofs.ReadWalk.{read-ended, read-clauses}
 
 abbrev pub Read : (S : RattleType) {X : Type 0} (answer : S .Denot → Answer X) (p : Reader X) {M : Type 1} (𝓤 : URA M) (H : Heap 𝓤) (A : Atoms 𝓤) → Contract 𝓤
-Read S answer p 𝓤 H A = tripleOf 𝓤 H A (read-ended S .signature) (closing 𝓤 H A (read-ended S) (read-clauses S answer 𝓤 p))
+Read S answer p 𝓤 H A = tripleOf 𝓤 H A (read-ended S none .signature) (closing 𝓤 H A (read-ended S none) (read-clauses S answer 𝓤 none (λ _. p)))
 
 -- the reader's type, as the callee has it
 abbrev pub R : Lft → RattleType
@@ -103,10 +104,10 @@ module _ (S : RattleType) {X : Type 0} (answer : S .Denot → Answer X) (p : Rea
   pub back : (ν : ℕ) (γ : GName) (u : Val) → ent 𝓤 (sep 𝓤 (Read S answer p 𝓤 H A .post (to ν γ) u) (mean 𝓤 H A (Kept ν γ))) (mean 𝓤 H A (later (some (λ (r : S .Denot). Back u r))))
   back ν γ u =
       qed W (raw (Read S answer p 𝓤 H A .post (to ν γ) u) ∷ Kept ν γ ∷ []) ∵ updating ! $
-      use1 W (later (some (λ (r : S .Denot). ((‵ (flft (ν ∷ κ) (PosShare·left q)) ⊛ ‵ (flft κ (PosShare·right q)) ⊛ ‵ ftrue) ⊛ ‵ (S .own r (u ∷ []))) ⊛ raw (ensured 𝓤 H A (read-ended S) (read-clauses S answer 𝓤 p) (ν ∷ κ, (κ, tt)) (x γ, tt) tt r))))
+      use1 W (later (some (λ (r : S .Denot). ((‵ (flft (ν ∷ κ) (PosShare·left q)) ⊛ ‵ (flft κ (PosShare·right q)) ⊛ ‵ ftrue) ⊛ ‵ (S .own r (u ∷ []))) ⊛ raw (ensured 𝓤 H A (read-ended S none) (read-clauses S answer 𝓤 none (λ _. p)) (ν ∷ κ, (κ, tt)) (x γ, tt) tt r))))
       (id⊢ 𝓤 _) $ await ! tt $ pick ! (λ r. split ! $ move ! (1 ∷ []) $
       -- what the callee ensures, at some last reader
-      use1 W (some (λ (ws : BodyReader × Unit {0}). ‵ (lasts (read-ended S) (ν ∷ κ, (κ, tt)) (x γ, tt) ws) ⊛ raw (fact 𝓤 ((answer r ≡ readBy p d) × (ws .0 ≡ movedBy p d))))) (id⊢ 𝓤 _) $ pick ! (λ ws.
+      use1 W (some (λ (ws : BodyReader × Unit {0}). ‵ (lasts (read-ended S none) (ν ∷ κ, (κ, tt)) (x γ, tt) ws) ⊛ raw (fact 𝓤 ((answer r ≡ readBy p d) × (ws .0 ≡ movedBy p d))))) (id⊢ 𝓤 _) $ pick ! (λ ws.
       split ! $ move ! (1 ∷ []) $ heard ! ((answer r ≡ readBy p d) × (ws .0 ≡ movedBy p d)) (λ e. fsplit ! $
       -- [the last reader's name; …; the tokens with the answer; what was kept]
       move ! (2 ∷ []) $ split ! $ split ! $ move ! (1 ∷ []) $ split ! $ move ! (2 ∷ []) $

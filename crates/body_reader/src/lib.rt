@@ -53,12 +53,12 @@ impl<'a> BodyReader<'a> {
         read
     }
 
-    // 32 bytes: where they stand.
-    pub fn read_id(&mut self) -> PartRead
-        ensures { λ r. ⌜ (partAnswer r ≡ readBy (mapped partOf (part 32)) (now (self .entry))) × (now (self .exit) ≡ movedBy (mapped partOf (part 32)) (now (self .entry))) ⌝ }
+    // n bytes: where they stand.
+    pub fn read_part(&mut self, n: usize) -> PartRead
+        ensures { λ r. ⌜ (partAnswer r ≡ readBy (mapped partOf (part n)) (now (self .entry))) × (now (self .exit) ≡ movedBy (mapped partOf (part n)) (now (self .entry))) ⌝ }
     {
         let cursor = Cursor { at: self.at.0 };
-        let read = id_at(cursor, self.body);
+        let read = cursor.read_part(self.body, n);
         self.at = after_part(self.at, read);
         read
     }
@@ -114,12 +114,6 @@ fn header_of(kind: ByteRead, count: VlqRead) -> HeaderRead
         },
         ByteRead::Refused(m) => HeaderRead::Refused(m),
     }
-}
-
-fn id_at(cursor: Cursor, s: &[u8]) -> PartRead
-    ensures { λ r. ⌜ partAnswer r ≡ mapped partOf (part 32) (now (s .entry)) (cursor .at) ⌝ }
-{
-    cursor.read_part(s, 32)
 }
 
 // The place after a reading: the cursor's, or on a refusal the one before.
