@@ -11,3 +11,4 @@ pub mod kinds;
 pub mod ours;
 pub mod rng;
 pub mod rust;
+pub mod written;

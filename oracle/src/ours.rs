@@ -89,24 +89,44 @@ pub fn read_part(s: &[u8], at: usize, n: usize) -> Answer {
 /// Bytes before and after an output that no writer may change.
 const MARGIN: usize = 32;
 
+/// An output between such bytes.
+pub struct Guarded(Vec<u8>);
+
+impl Guarded {
+    /// An output of `room` bytes, which and those around it hold what `byte` gives for each index.
+    pub fn filled(room: usize, byte: impl FnMut(usize) -> u8) -> Guarded {
+        Guarded((0..room + 2 * MARGIN).map(byte).collect())
+    }
+
+    pub fn output(&self) -> &[u8] {
+        &self.0[MARGIN..self.0.len() - MARGIN]
+    }
+
+    /// A writer's answer from a place, or the promise that it broke.
+    pub fn write(&mut self, at: usize, f: impl FnOnce(&mut [u8], &mut [u64; 1]) -> u8) -> Answer {
+        let before = self.0.clone();
+        let after = &mut self.0;
+        let room = before.len() - 2 * MARGIN;
+        let result = call(|r| f(&mut after[MARGIN..MARGIN + room], r));
+        let [end] = match result {
+            Ok(r) => r,
+            Err(_) if *after != before => return Answer::Broken("a refusal changed the output"),
+            Err(refused) => return refused,
+        };
+        if end < at as u64 || end > room as u64 {
+            return Answer::Broken("the end is not in the output");
+        }
+        let (from, to) = (MARGIN + at, MARGIN + end as usize);
+        if after[..from] != before[..from] || after[to..] != before[to..] {
+            return Answer::Broken("a write changed bytes that it does not report");
+        }
+        Answer::Reached(Value::Bytes(after[from..to].to_vec()), end)
+    }
+}
+
 /// A writer on an output of `room` bytes with a pattern in it and around it.
 fn write(room: usize, at: usize, f: impl FnOnce(&mut [u8], &mut [u64; 1]) -> u8) -> Answer {
-    let before: Vec<u8> = (0..room + 2 * MARGIN).map(|i| (i * 31 + 7) as u8).collect();
-    let mut after = before.clone();
-    let result = call(|r| f(&mut after[MARGIN..MARGIN + room], r));
-    let [end] = match result {
-        Ok(r) => r,
-        Err(_) if after != before => return Answer::Broken("a refusal changed the output"),
-        Err(refused) => return refused,
-    };
-    if end < at as u64 || end > room as u64 {
-        return Answer::Broken("the end is not in the output");
-    }
-    let (from, to) = (MARGIN + at, MARGIN + end as usize);
-    if after[..from] != before[..from] || after[to..] != before[to..] {
-        return Answer::Broken("a write changed bytes that it does not report");
-    }
-    Answer::Reached(Value::Bytes(after[from..to].to_vec()), end)
+    Guarded::filled(room, |i| (i * 31 + 7) as u8).write(at, f)
 }
 
 pub fn write_vlq(room: usize, at: usize, value: u64) -> Answer {

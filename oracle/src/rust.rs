@@ -5,6 +5,7 @@
 pub mod builds;
 pub mod entries;
 pub mod frames;
+pub mod items;
 pub mod messages;
 pub mod sessions;
 pub mod tables;

@@ -5,6 +5,7 @@ pub mod entries;
 pub mod fields;
 pub mod frames;
 pub mod hashes;
+pub mod lists;
 pub mod messages;
 pub mod numbers;
 pub mod parts;

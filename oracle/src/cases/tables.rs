@@ -21,11 +21,6 @@ type Make = fn(&mut Rng) -> Case;
 /// What the Rust writes, or document 01 refuses.
 pub type Writer = fn(&Case) -> Expected;
 
-/// The place and length of the output of a case.
-pub fn out(case: &Case) -> Output {
-    Output { at: case.word(0), room: case.word(1) }
-}
-
 /// Random cases, each with an output made for it, and some with several.
 fn bounded(count: u64, writer: Writer, make: Make) -> Vec<Kind> {
     vec![
@@ -37,7 +32,7 @@ fn bounded(count: u64, writer: Writer, make: Make) -> Vec<Kind> {
         // Rooms around what the writing takes, from a few places.
         Kind::random("outputs", count / 2, move |rng, visit| {
             let mut case = make(rng);
-            let Some(length) = written(writer, &case) else { return visit(&case) };
+            let Ok(length) = written(writer, &case) else { return visit(&case) };
             for place in [0, 1, 7] {
                 for room in [length - 1, length, length + 1].map(|room| place + room) {
                     case.words[..2].copy_from_slice(&[place, room]);
@@ -78,13 +73,14 @@ fn bound(rng: &mut Rng, writer: Writer, case: &mut Case) {
     case.words[..2].copy_from_slice(&output(rng, length));
 }
 
-/// How many bytes a case writes into an output that has room.
-fn written(writer: Writer, case: &Case) -> Option<u64> {
+/// How many bytes a case writes into an output that has room, or the number of its refusal.
+pub fn written(writer: Writer, case: &Case) -> Result<u64, u8> {
     let mut roomy = case.clone();
     roomy.words[..2].copy_from_slice(&[0, u64::MAX]);
     match writer(&roomy).answer() {
-        Answer::Reached(_, end) => Some(*end),
-        _ => None,
+        Answer::Reached(_, end) => Ok(*end),
+        Answer::Refused(number) => Err(*number),
+        other => unreachable!("{other} of a writer"),
     }
 }
 
@@ -92,21 +88,24 @@ fn written(writer: Writer, case: &Case) -> Option<u64> {
 
 /// An entry of a table: its row as the third number.
 pub fn entries(count: u64, writer: Writer) -> Vec<Kind> {
-    let mut kinds = of_writer(count, writer, |rng| {
-        let mut tables = Tables::random(rng, 3);
-        tables.spoil_at_times(rng);
-        let rows = (tables.entries.len() / ENTRY) as u64;
-        let row = match rng.below(16) {
-            0 => rng.pick(&[rows, rows + 1, 1 << 32, u64::MAX]),
-            _ => rng.below(rows.max(1)),
-        };
-        let timestamp = if rng.below(2) == 0 { edge_number(rng) } else { rng.number() };
-        Case::new(&[0, 0, row, timestamp], &tables.laid())
-    });
+    let mut kinds = of_writer(count, writer, entry);
     let tables = documented();
     let row = |row| Case::new(&[0, 0, row, 300], &tables);
     kinds.extend([edges(writer, &[row(0), row(1), row(2)]), long_features(&[0, 300, 0, 0], 0)]);
     kinds
+}
+
+/// One row of some, and a timestamp.
+pub fn entry(rng: &mut Rng) -> Case {
+    let mut tables = Tables::random(rng, 3);
+    tables.spoil_at_times(rng);
+    let rows = (tables.entries.len() / ENTRY) as u64;
+    let row = match rng.below(16) {
+        0 => rng.pick(&[rows, rows + 1, 1 << 32, u64::MAX]),
+        _ => rng.below(rows.max(1)),
+    };
+    let timestamp = if rng.below(2) == 0 { edge_number(rng) } else { rng.number() };
+    Case::new(&[0, 0, row, timestamp], &tables.laid())
 }
 
 /// An entry with all that it may have, and one with nothing; features 16, 3 and one that is in both.
@@ -119,13 +118,7 @@ fn documented() -> Vec<u8> {
 
 /// Entries for Peers: network and cap as third and fourth number.
 pub fn peers(count: u64, writer: Writer) -> Vec<Kind> {
-    let kinds = of_writer(count, writer, |rng| {
-        let mut tables = Tables::random(rng, 5);
-        tables.spoil_at_times(rng);
-        let rows = (tables.entries.len() / ENTRY) as u64;
-        let cap = if rng.below(4) == 0 { (rows + rng.below(3)).saturating_sub(1) } else { 64 };
-        Case::new(&[0, 0, 0, cap], &tables.laid())
-    });
+    let kinds = of_writer(count, writer, entry_list);
     let mut kinds: Vec<Kind> = kinds.into_iter().map(|kind| networks(kind, 2)).collect();
     let tables = documented();
     let cap = |cap| Case::new(&[0, 0, 1, cap], &tables);
@@ -135,6 +128,15 @@ pub fn peers(count: u64, writer: Writer) -> Vec<Kind> {
     kinds
 }
 
+/// A few entries, and a cap.
+pub fn entry_list(rng: &mut Rng) -> Case {
+    let mut tables = Tables::random(rng, 5);
+    tables.spoil_at_times(rng);
+    let rows = (tables.entries.len() / ENTRY) as u64;
+    let cap = if rng.below(4) == 0 { (rows + rng.below(3)).saturating_sub(1) } else { 64 };
+    Case::new(&[0, 0, 0, cap], &tables.laid())
+}
+
 /// An entry with one feature whose length is at the limit, past it, or such that the entry is as
 /// long as a body may be; the output has room and `more` for one of them.
 fn long_features(words: &'static [u64], more: u64) -> Kind {
@@ -142,14 +144,17 @@ fn long_features(words: &'static [u64], more: u64) -> Kind {
     const AROUND: u64 = 1 + 7 + 1 + 4;
     Kind::every("long", 5, move |i, case| {
         let length = [LIMIT + 1, LIMIT, LIMIT - AROUND + 1, LIMIT - AROUND, LIMIT][i as usize];
-        let entry = [0, 0, 4, 0, 100, 0, 0, 0, 0, 0, 0, 1];
-        let mut bytes = laid(&[&entry, &[5, 0, length as u32]], &[]);
-        bytes.resize(bytes.len() + length as usize, b'a');
-        case.set(words, &bytes);
+        case.set(words, &long_feature(length));
         if i > 2 {
             case.words[1] = length + AROUND + more;
         }
     })
+}
+
+/// An entry with one feature of so many bytes.
+pub fn long_feature(length: u64) -> Vec<u8> {
+    let entry = [0, 0, 4, 0, 100, 0, 0, 0, 0, 0, 0, 1];
+    laid(&[&entry, &[5, 0, length as u32]], &vec![b'a'; length as usize])
 }
 
 /// The tables and the buffer of a case.
@@ -301,14 +306,7 @@ fn far(rng: &mut Rng, length: u32) -> u32 {
 
 /// Ids: network and type byte as third and fourth number.
 pub fn ids(count: u64, writer: Writer) -> Vec<Kind> {
-    let kinds = of_writer(count, writer, |rng| {
-        let mut buffer = vec![];
-        let length = 32 + rng.below(80);
-        rng.append(&mut buffer, length);
-        let mut places: Vec<u32> = (0..items(rng)).map(|_| place(rng, length as u32, 32)).collect();
-        misplace(rng, &mut places, length as u32);
-        Case::new(&[0, 0, 0, rng.byte().into()], &laid(&[&places], &buffer))
-    });
+    let kinds = of_writer(count, writer, id_list);
     let mut kinds: Vec<Kind> = kinds.into_iter().map(|kind| networks(kind, 2)).collect();
     let list: [&[u32]; 5] = [&[], &[0], &[8, 0], &[9], &[u32::MAX]];
     kinds.push(edges(
@@ -318,28 +316,41 @@ pub fn ids(count: u64, writer: Writer) -> Vec<Kind> {
     kinds
 }
 
+/// A few ids, and a type byte.
+pub fn id_list(rng: &mut Rng) -> Case {
+    let mut buffer = vec![];
+    let length = 32 + rng.below(80);
+    rng.append(&mut buffer, length);
+    let mut places: Vec<u32> = (0..items(rng)).map(|_| place(rng, length as u32, 32)).collect();
+    misplace(rng, &mut places, length as u32);
+    Case::new(&[0, 0, 0, rng.byte().into()], &laid(&[&places], &buffer))
+}
+
 /// Payloads: network and type byte as third and fourth number.
 pub fn payloads(count: u64, writer: Writer) -> Vec<Kind> {
-    let kinds = of_writer(count, writer, |rng| {
-        let mut buffer = vec![];
-        let length = 32 + rng.below(80);
-        rng.append(&mut buffer, length);
-        let mut table = vec![];
-        for _ in 0..items(rng) {
-            let size = rng.below(length + 1) as u32;
-            table.extend([place(rng, length as u32, 32), place(rng, length as u32, size), size]);
-        }
-        misplace(rng, &mut table, length as u32);
-        if rng.below(16) == 0 {
-            table.truncate(rng.below(table.len() as u64 + 1) as usize);
-        }
-        Case::new(&[0, 0, 0, rng.byte().into()], &laid(&[&table], &buffer))
-    });
+    let kinds = of_writer(count, writer, payload_list);
     let mut kinds: Vec<Kind> = kinds.into_iter().map(|kind| networks(kind, 2)).collect();
     let list: [&[u32]; 5] = [&[], &[0, 32, 8], &[8, 40, 0, 0, 0, 40], &[0, 33, 8], &[0, 0]];
     let list = list.map(|table| Case::new(&[0, 0, 1, 2], &laid(&[table], &[7; 40])));
     kinds.extend([edges(writer, &list), long_payloads()]);
     kinds
+}
+
+/// A few payloads, and a type byte.
+pub fn payload_list(rng: &mut Rng) -> Case {
+    let mut buffer = vec![];
+    let length = 32 + rng.below(80);
+    rng.append(&mut buffer, length);
+    let mut table = vec![];
+    for _ in 0..items(rng) {
+        let size = rng.below(length + 1) as u32;
+        table.extend([place(rng, length as u32, 32), place(rng, length as u32, size), size]);
+    }
+    misplace(rng, &mut table, length as u32);
+    if rng.below(16) == 0 {
+        table.truncate(rng.below(table.len() as u64 + 1) as usize);
+    }
+    Case::new(&[0, 0, 0, rng.byte().into()], &laid(&[&table], &buffer))
 }
 
 /// How many ids or payloads: few, or around 400.
@@ -371,30 +382,21 @@ fn long_payloads() -> Kind {
     Kind::every("long", 6, |i, case| {
         let length = [LIMIT + 1, LIMIT, LIMIT - AROUND + 1, LIMIT - AROUND, LIMIT - AROUND, 50_000];
         let length = length[i as usize];
-        let row = [0, 0, length as u32];
-        let table = if i == 5 { row.repeat(400) } else { row.to_vec() };
-        let mut bytes = laid(&[&table], &[]);
-        bytes.resize(bytes.len() + length as usize, b'a');
         let room = if i == 4 { LIMIT + 13 } else { 300 };
-        case.set(&[0, room, 1, 7], &bytes);
+        case.set(&[0, room, 1, 7], &long_payload(length, if i == 5 { 400 } else { 1 }));
     })
+}
+
+/// So many payloads of so many bytes.
+pub fn long_payload(length: u64, count: usize) -> Vec<u8> {
+    laid(&[&[0, 0, length as u32].repeat(count)], &vec![b'a'; length as usize])
 }
 
 // ---- bodies as they are
 
 /// Bodies: network and code as third and fourth number.
 pub fn bodies(count: u64, writer: Writer) -> Vec<Kind> {
-    let kinds = of_writer(count, writer, |rng| {
-        let mut body = vec![];
-        let length = match rng.below(4) {
-            0 => rng.below(300),
-            1 => 126 + rng.below(6),
-            _ => rng.below(8),
-        };
-        rng.append(&mut body, length);
-        let code = if rng.below(4) == 0 { rng.pick(&[1, 2, 22, 33, 55, 65]) } else { rng.byte() };
-        Case::new(&[0, 0, 0, code.into()], &body)
-    });
+    let kinds = of_writer(count, writer, body);
     let mut kinds: Vec<Kind> = kinds.into_iter().map(|kind| networks(kind, 2)).collect();
     let list: [&[u8]; 4] = [&[], &[0], &[1, 2, 3], &[255; 130]];
     kinds.push(edges(writer, &list.map(|body| Case::new(&[0, 0, 1, 77], body))));
@@ -406,6 +408,19 @@ pub fn bodies(count: u64, writer: Writer) -> Vec<Kind> {
         case.set(&[0, LIMIT + 13, 1, code], &vec![b'a'; (LIMIT + i % 2) as usize]);
     }));
     kinds
+}
+
+/// A body, and a code.
+pub fn body(rng: &mut Rng) -> Case {
+    let mut body = vec![];
+    let length = match rng.below(4) {
+        0 => rng.below(300),
+        1 => 126 + rng.below(6),
+        _ => rng.below(8),
+    };
+    rng.append(&mut body, length);
+    let code = if rng.below(4) == 0 { rng.pick(&[1, 2, 22, 33, 55, 65]) } else { rng.byte() };
+    Case::new(&[0, 0, 0, code.into()], &body)
 }
 
 // ---- build
@@ -428,7 +443,7 @@ pub fn builds(count: u64, writer: Writer) -> Vec<Kind> {
     })
 }
 
-fn config(rng: &mut Rng) -> Config {
+pub fn config(rng: &mut Rng) -> Config {
     let mut numbers = vec![];
     version(rng, &mut numbers);
     let address = match rng.below(3) {

@@ -2,7 +2,8 @@
 
 use super::writers::writer;
 use super::Function;
-use crate::cases::tables::{self, out};
+use crate::cases::tables;
+use crate::ours::writers::on_case;
 use crate::{ours, rust};
 
 pub fn rows() -> Vec<Function> {
@@ -12,8 +13,8 @@ pub fn rows() -> Vec<Function> {
             "write_handshake",
             &["place", "room", "row", "timestamp"],
             &[3, 4, 12, 13, 14, 15, 16],
-            |c| rust::writers::write_entry(out(c), Some(c.word(3)), c.word(2), &c.bytes),
-            ours::builds::write_handshake,
+            rust::writers::write_handshake,
+            |c| on_case(c, ours::builds::write_handshake),
             tables::entries,
         ),
         writer(
@@ -39,7 +40,7 @@ pub fn rows() -> Vec<Function> {
             ],
             &[4, 12, 13, 14],
             rust::builds::build,
-            ours::builds::build,
+            |c| on_case(c, ours::builds::build),
             tables::builds,
         ),
     ]

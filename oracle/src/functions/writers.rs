@@ -3,8 +3,9 @@
 use super::Function;
 use crate::answer::Answer;
 use crate::case::Case;
-use crate::cases::tables::{self, out, Writer};
+use crate::cases::tables::{self, Writer};
 use crate::kinds::Kind;
+use crate::ours::writers::on_case;
 use crate::{ours, rust};
 
 pub fn rows() -> Vec<Function> {
@@ -14,8 +15,8 @@ pub fn rows() -> Vec<Function> {
             "write_entry",
             &["place", "room", "row"],
             &[3, 4, 12, 13, 14, 15, 16],
-            |c| rust::writers::write_entry(out(c), None, c.word(2), &c.bytes),
-            ours::writers::write_entry,
+            rust::writers::write_entry,
+            |c| on_case(c, ours::writers::write_entry),
             tables::entries,
         ),
         writer(
@@ -23,8 +24,8 @@ pub fn rows() -> Vec<Function> {
             "encode",
             &["place", "room", "mainnet", "code"],
             &[7, 12, 14],
-            |c| rust::writers::encode(out(c), c.word(2) as u8, c.word(3) as u8, &c.bytes),
-            ours::writers::encode,
+            rust::writers::encode,
+            |c| on_case(c, ours::writers::encode),
             tables::bodies,
         ),
         writer(
@@ -32,8 +33,8 @@ pub fn rows() -> Vec<Function> {
             "write_get_peers",
             &["place", "room", "mainnet"],
             &[12, 14],
-            |c| rust::writers::write_get_peers(out(c), c.word(2) as u8),
-            ours::writers::write_get_peers,
+            rust::writers::write_get_peers,
+            |c| on_case(c, ours::writers::write_get_peers),
             tables::bodies,
         ),
         writer(
@@ -41,8 +42,8 @@ pub fn rows() -> Vec<Function> {
             "write_peers",
             &["place", "room", "mainnet", "cap"],
             &[3, 4, 7, 10, 12, 13, 14, 15, 16],
-            |c| rust::writers::write_peers(out(c), c.word(2) as u8, c.word(3), &c.bytes),
-            ours::writers::write_peers,
+            rust::writers::write_peers,
+            |c| on_case(c, ours::writers::write_peers),
             tables::peers,
         ),
         writer(
@@ -50,15 +51,8 @@ pub fn rows() -> Vec<Function> {
             "write_modifier_request",
             &["place", "room", "mainnet", "type"],
             &[10, 12, 14],
-            |c| {
-                rust::writers::write_modifier_request(
-                    out(c),
-                    c.word(2) as u8,
-                    c.word(3) as u8,
-                    &c.bytes,
-                )
-            },
-            ours::writers::write_modifier_request,
+            rust::writers::write_modifier_request,
+            |c| on_case(c, ours::writers::write_modifier_request),
             tables::ids,
         ),
         writer(
@@ -66,15 +60,8 @@ pub fn rows() -> Vec<Function> {
             "write_modifier_response",
             &["place", "room", "mainnet", "type"],
             &[3, 7, 10, 12, 14, 16],
-            |c| {
-                rust::writers::write_modifier_response(
-                    out(c),
-                    c.word(2) as u8,
-                    c.word(3) as u8,
-                    &c.bytes,
-                )
-            },
-            ours::writers::write_modifier_response,
+            rust::writers::write_modifier_response,
+            |c| on_case(c, ours::writers::write_modifier_response),
             tables::payloads,
         ),
         writer(
@@ -82,8 +69,8 @@ pub fn rows() -> Vec<Function> {
             "write_inv",
             &["place", "room", "mainnet", "type"],
             &[10, 12, 14],
-            |c| rust::writers::write_inv(out(c), c.word(2) as u8, c.word(3) as u8, &c.bytes),
-            ours::writers::write_inv,
+            rust::writers::write_inv,
+            |c| on_case(c, ours::writers::write_inv),
             tables::ids,
         ),
         writer(
@@ -91,8 +78,8 @@ pub fn rows() -> Vec<Function> {
             "write_sync_info",
             &["place", "room", "mainnet"],
             &[7, 12, 14],
-            |c| rust::writers::write_sync_info(out(c), c.word(2) as u8, &c.bytes),
-            ours::writers::write_sync_info,
+            rust::writers::write_sync_info,
+            |c| on_case(c, ours::writers::write_sync_info),
             tables::bodies,
         ),
         writer(
@@ -100,8 +87,8 @@ pub fn rows() -> Vec<Function> {
             "write_unknown",
             &["place", "room", "mainnet", "code"],
             &[7, 12, 14, 15],
-            |c| rust::writers::write_unknown(out(c), c.word(2) as u8, c.word(3) as u8, &c.bytes),
-            ours::writers::write_unknown,
+            rust::writers::write_unknown,
+            |c| on_case(c, ours::writers::write_unknown),
             tables::bodies,
         ),
     ]

@@ -1,7 +1,5 @@
 //! Our writers of handshakes.
 
-use super::writers::on_case;
-use crate::answer::Answer;
 use crate::case::Case;
 use crate::rust::builds::Config;
 use crate::rust::tables::Lent;
@@ -36,16 +34,15 @@ pub fn put_handshake(
     }
 }
 
-pub fn write_handshake(case: &Case) -> Answer {
-    let lent = Lent::of(&case.bytes);
-    on_case(case, |out, at, r| put_handshake(out, at, case.word(3), &lent, case.place(2), r))
+pub fn write_handshake(case: &Case, out: &mut [u8], at: usize, r: &mut [u64; 1]) -> u8 {
+    put_handshake(out, at, case.word(3), &Lent::of(&case.bytes), case.place(2), r)
 }
 
-pub fn build(case: &Case) -> Answer {
+pub fn build(case: &Case, out: &mut [u8], at: usize, r: &mut [u64; 1]) -> u8 {
     let config = Config::of(case);
     let [major, minor, patch] = config.version;
     let [kind, high, low, port] = config.address;
-    on_case(case, |out, at, r| unsafe {
+    unsafe {
         haspeljo_build(
             out.as_mut_ptr(),
             out.len(),
@@ -70,5 +67,5 @@ pub fn build(case: &Case) -> Answer {
             config.name.len(),
             r,
         )
-    })
+    }
 }

@@ -103,15 +103,18 @@ pub fn put_sync_info(out: &mut [u8], at: usize, mainnet: u8, body: &[u8], r: &mu
     unsafe { haspeljo_write_sync_info(out.as_mut_ptr(), out.len(), at, mainnet, start, length, r) }
 }
 
+/// A writer as it is, of the values of a case.
+pub type Put = fn(&Case, &mut [u8], usize, &mut [u64; 1]) -> u8;
+
 /// A writer on the output of a case, whose first numbers are the place and the room.
-pub fn on_case(case: &Case, f: impl FnOnce(&mut [u8], usize, &mut [u64; 1]) -> u8) -> Answer {
+pub fn on_case(case: &Case, put: Put) -> Answer {
     let [at, room] = [case.place(0), case.place(1)];
-    write(room, at, |out, r| f(out, at, r))
+    write(room, at, |out, r| put(case, out, at, r))
 }
 
-pub fn write_entry(case: &Case) -> Answer {
+pub fn write_entry(case: &Case, out: &mut [u8], at: usize, r: &mut [u64; 1]) -> u8 {
     let Lent { entries, features, buffer } = Lent::of(&case.bytes);
-    on_case(case, |out, at, r| unsafe {
+    unsafe {
         haspeljo_write_entry(
             out.as_mut_ptr(),
             out.len(),
@@ -125,58 +128,53 @@ pub fn write_entry(case: &Case) -> Answer {
             case.place(2),
             r,
         )
-    })
+    }
 }
 
-pub fn write_peers(case: &Case) -> Answer {
-    let lent = Lent::of(&case.bytes);
-    on_case(case, |out, at, r| put_peers(out, at, case.word(2) as u8, case.place(3), &lent, r))
+pub fn write_peers(case: &Case, out: &mut [u8], at: usize, r: &mut [u64; 1]) -> u8 {
+    put_peers(out, at, case.word(2) as u8, case.place(3), &Lent::of(&case.bytes), r)
 }
 
-fn one_table(case: &Case, writer: OneTable) -> Answer {
+fn one_table(writer: OneTable, case: &Case, out: &mut [u8], at: usize, r: &mut [u64; 1]) -> u8 {
     let ([table], buffer) = tables::<1>(&case.bytes);
     let typed = Typed { kind: case.word(3) as u8, table: &table, buffer };
-    on_case(case, |out, at, r| put_typed(writer, out, at, case.word(2) as u8, typed, r))
+    put_typed(writer, out, at, case.word(2) as u8, typed, r)
 }
 
-pub fn write_modifier_request(case: &Case) -> Answer {
-    one_table(case, haspeljo_write_modifier_request)
+pub fn write_modifier_request(case: &Case, out: &mut [u8], at: usize, r: &mut [u64; 1]) -> u8 {
+    one_table(haspeljo_write_modifier_request, case, out, at, r)
 }
 
-pub fn write_modifier_response(case: &Case) -> Answer {
-    one_table(case, haspeljo_write_modifier_response)
+pub fn write_modifier_response(case: &Case, out: &mut [u8], at: usize, r: &mut [u64; 1]) -> u8 {
+    one_table(haspeljo_write_modifier_response, case, out, at, r)
 }
 
-pub fn write_inv(case: &Case) -> Answer {
-    one_table(case, haspeljo_write_inv)
+pub fn write_inv(case: &Case, out: &mut [u8], at: usize, r: &mut [u64; 1]) -> u8 {
+    one_table(haspeljo_write_inv, case, out, at, r)
 }
 
-pub fn write_get_peers(case: &Case) -> Answer {
-    on_case(case, |out, at, r| unsafe {
-        haspeljo_write_get_peers(out.as_mut_ptr(), out.len(), at, case.word(2) as u8, r)
-    })
+pub fn write_get_peers(case: &Case, out: &mut [u8], at: usize, r: &mut [u64; 1]) -> u8 {
+    unsafe { haspeljo_write_get_peers(out.as_mut_ptr(), out.len(), at, case.word(2) as u8, r) }
 }
 
-pub fn write_sync_info(case: &Case) -> Answer {
-    on_case(case, |out, at, r| put_sync_info(out, at, case.word(2) as u8, &case.bytes, r))
+pub fn write_sync_info(case: &Case, out: &mut [u8], at: usize, r: &mut [u64; 1]) -> u8 {
+    put_sync_info(out, at, case.word(2) as u8, &case.bytes, r)
 }
 
 /// A writer of a body as it is: output, network, code, body, result.
 type WholeBody =
     unsafe extern "C" fn(*mut u8, usize, usize, u8, u8, *const u8, usize, *mut [u64; 1]) -> u8;
 
-fn whole_body(case: &Case, writer: WholeBody) -> Answer {
+fn whole_body(writer: WholeBody, case: &Case, out: &mut [u8], at: usize, r: &mut [u64; 1]) -> u8 {
     let [mainnet, code] = [case.word(2) as u8, case.word(3) as u8];
     let body = &case.bytes;
-    on_case(case, |out, at, r| unsafe {
-        writer(out.as_mut_ptr(), out.len(), at, mainnet, code, body.as_ptr(), body.len(), r)
-    })
+    unsafe { writer(out.as_mut_ptr(), out.len(), at, mainnet, code, body.as_ptr(), body.len(), r) }
 }
 
-pub fn write_unknown(case: &Case) -> Answer {
-    whole_body(case, haspeljo_write_unknown)
+pub fn write_unknown(case: &Case, out: &mut [u8], at: usize, r: &mut [u64; 1]) -> u8 {
+    whole_body(haspeljo_write_unknown, case, out, at, r)
 }
 
-pub fn encode(case: &Case) -> Answer {
-    whole_body(case, haspeljo_encode)
+pub fn encode(case: &Case, out: &mut [u8], at: usize, r: &mut [u64; 1]) -> u8 {
+    whole_body(haspeljo_encode, case, out, at, r)
 }

@@ -93,8 +93,8 @@ impl Config {
         Some(SocketAddr::new(ip, port as u16))
     }
 
-    /// The bytes of a handshake with the features Mode and Session, in document 01's words.
-    fn put_together(&self) -> Vec<u8> {
+    /// The entry with the features Mode and Session, in document 01's words.
+    pub fn spec(&self) -> PeerSpec {
         let text = |bytes: &[u8]| String::from_utf8(bytes.to_vec()).expect("UTF-8");
         let [major, minor, patch] = self.version;
         let mut mode = vec![self.state_type, (self.verifying != 0) as u8];
@@ -102,23 +102,27 @@ impl Config {
         write_vlq(&mut mode, zigzag_encode_i64(self.blocks_to_keep.into()));
         let mut session = network(self.mainnet).magic().to_vec();
         write_vlq(&mut session, zigzag_encode_i64(self.session_id));
-        let spec = PeerSpec {
+        PeerSpec {
             agent: text(&self.agent),
             version: Version::new(major, minor, patch),
             name: text(&self.name),
             address: self.socket_address(),
             features: vec![Feature { id: 16, body: mode }, Feature { id: 3, body: session }],
-        };
+        }
+    }
+
+    /// The bytes of the handshake.
+    fn put_together(&self) -> Vec<u8> {
         let mut bytes = vec![];
         write_vlq(&mut bytes, self.timestamp);
-        handshake::serialize_peer_entry(&spec, &mut bytes);
+        handshake::serialize_peer_entry(&self.spec(), &mut bytes);
         bytes
     }
 }
 
 pub fn build(case: &Case) -> Expected {
     let config = Config::of(case);
-    let out = Output { at: case.word(0), room: case.word(1) };
+    let out = Output::of(case);
     if out.is_outside() {
         return refused(12);
     }

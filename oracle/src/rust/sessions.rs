@@ -1,8 +1,12 @@
 //! The session walk, put together from the Rust's functions: at place 0 `parse` and `measure_size`,
 //! elsewhere `decode`, then `from_frame`, and `parse_peers_body` for Peers.
 
-use super::{entries, frames, messages, number, refused, Reading};
+use super::items::Item;
+use super::{entries, frames, messages, number, refused};
 use crate::answer::{Answer, Expected, Value};
+use p2p::protocol::messages::ProtocolMessage;
+use p2p::transport::frame::Frame;
+use p2p::transport::handshake::PeerSpec;
 use std::io;
 
 /// What stands at a place of a session: an item and its end; or `end`; or `stop` with the layer, the
@@ -19,31 +23,56 @@ pub fn step(s: &[u8], at: u64, mainnet: u8, cap: u64) -> Expected {
 
 /// All items of a session in order, each with its end, then how the session ends.
 pub fn walk(s: &[u8], mainnet: u8, cap: u64) -> Expected {
-    let mut values = vec![];
-    let mut at = 0;
+    let (items, ending) = each(|at| opened(s, at, mainnet, cap));
+    let items = items.into_iter().flat_map(|(item, end)| [item, Value::Unsigned(end)]);
+    Expected::Rust(Answer::Is(Value::List(items.chain([ending]).collect())))
+}
+
+/// All items of a session by value, and how the session ends.
+pub fn items(s: &[u8], mainnet: u8, cap: u64) -> (Vec<Item>, Value) {
+    let (items, ending) = each(|at| valued(s, at, mainnet, cap));
+    (items.into_iter().map(|(item, _)| item).collect(), ending)
+}
+
+/// What is opened from place 0 on, each with its end, and how the session ends.
+fn each<T>(open: impl Fn(u64) -> Result<(T, u64), Value>) -> (Vec<(T, u64)>, Value) {
+    let (mut items, mut at) = (vec![], 0);
     loop {
-        match opened(s, at, mainnet, cap) {
+        match open(at) {
             Ok((item, end)) => {
-                values.extend([item, Value::Unsigned(end)]);
+                items.push((item, end));
                 at = end;
             }
-            Err(ending) => {
-                values.push(ending);
-                return Expected::Rust(Answer::Is(Value::List(values)));
-            }
+            Err(ending) => return (items, ending),
         }
     }
 }
 
-/// The item at a place with its end, or how the session ends there.
-fn opened(s: &[u8], at: u64, mainnet: u8, cap: u64) -> Result<(Value, u64), Value> {
+/// What stands at a place before a body is opened.
+enum Found {
+    Handshake(PeerSpec),
+    Frame(Frame),
+}
+
+/// What stands at a place and its end, or how the session ends there.
+fn found(s: &[u8], at: u64, mainnet: u8) -> Result<(Found, u64), Value> {
     if at == 0 {
-        return handshake(s, mainnet).map_err(|e| stop("handshake", e, at));
+        let (spec, size) = entries::parsed(s).map_err(|e| stop("handshake", e, at))?;
+        return Ok((Found::Handshake(spec), size));
     }
     if at == s.len() as u64 {
         return Err(Value::Word("end"));
     }
     let (frame, end) = frames::decoded(s, at, mainnet).map_err(|e| stop("frame", e, at))?;
+    Ok((Found::Frame(frame), end))
+}
+
+/// The item at a place with its end, or how the session ends there.
+fn opened(s: &[u8], at: u64, mainnet: u8, cap: u64) -> Result<(Value, u64), Value> {
+    let (frame, end) = match found(s, at, mainnet)? {
+        (Found::Handshake(spec), size) => return Ok((handshake(s, &spec, mainnet), size)),
+        (Found::Frame(frame), end) => (frame, end),
+    };
     let (fields, next) =
         messages::opened(frame.code, &frame.body, cap, mainnet).map_err(|e| stop("body", e, at))?;
     let length = frame.body.len() as u64;
@@ -52,11 +81,23 @@ fn opened(s: &[u8], at: u64, mainnet: u8, cap: u64) -> Result<(Value, u64), Valu
 }
 
 /// The fields of a handshake and its verdict.
-fn handshake(s: &[u8], mainnet: u8) -> Reading {
-    let (spec, size) = entries::parsed(s)?;
-    let fields = entries::handshake_fields(s, &spec)?;
-    let verdict = entries::verdict(&spec, mainnet);
-    Ok((Value::List(vec![Value::Word("handshake"), Value::Unsigned(0), fields, verdict]), size))
+fn handshake(s: &[u8], spec: &PeerSpec, mainnet: u8) -> Value {
+    let fields = entries::handshake_fields(s, spec).expect("the places of what the Rust parses");
+    let verdict = entries::verdict(spec, mainnet);
+    Value::List(vec![Value::Word("handshake"), Value::Unsigned(0), fields, verdict])
+}
+
+/// The item at a place by value with its end, or how the session ends there.
+fn valued(s: &[u8], at: u64, mainnet: u8, cap: u64) -> Result<(Item, u64), Value> {
+    let (item, end) = match found(s, at, mainnet)? {
+        (Found::Handshake(spec), size) => (Item::handshake(s, spec), size),
+        (Found::Frame(frame), end) => {
+            let message = ProtocolMessage::from_frame(&frame);
+            let item = message.and_then(|message| Item::message(message, cap));
+            (item.map_err(|e| stop("body", e, at))?, end)
+        }
+    };
+    Ok((item, end))
 }
 
 /// Start, code, place and length of the body; then what is read of the body, in places of the body.

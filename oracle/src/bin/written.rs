@@ -1,0 +1,40 @@
+//! Compares written sessions: lists of our writes on one output, read back by the Rust.
+//! `written [COUNT] [SEED]`.
+
+use oracle::cases::lists::list;
+use oracle::rng::Rng;
+use oracle::written::{compare, Tally};
+use std::{env, process};
+
+/// The most differences that are printed, and the most characters of one.
+const SHOWN: u64 = 10;
+const LENGTH: usize = 500;
+
+/// A run of so many lists must hold every kind of write and every refusal number.
+const WHOLE: u64 = 10_000;
+
+fn main() {
+    let mut words = env::args().skip(1).map(|word| word.parse::<u64>().expect("a number"));
+    let count = words.next().unwrap_or(100_000);
+    let seed = words.next().unwrap_or(1);
+    let mut tally = Tally::default();
+    let mut differed = 0;
+    for index in 0..count {
+        let mut rng = Rng::new(seed, 0, index as usize);
+        let list = list(&mut rng, index);
+        tally.count(&list);
+        if let Err(what) = compare(&list, &mut rng) {
+            differed += 1;
+            if differed <= SHOWN {
+                let what: String = what.chars().take(LENGTH).collect();
+                println!("differs: seed {seed}, list {index}: {what}");
+            }
+        }
+    }
+    println!("{tally}\nseed {seed}: {count} lists, {differed} differed");
+    let missing = if count < WHOLE { vec![] } else { tally.missing() };
+    if !missing.is_empty() {
+        println!("never met: {}", missing.join(", "));
+    }
+    process::exit((differed > 0 || !missing.is_empty()) as i32);
+}
