@@ -141,48 +141,32 @@ fn columns(v: [u64; 16], m: &[u64; 16], s: &Schedule, i: usize) -> [u64; 16]
     requires { ⌜ now s ≡ kept ⌝ }
     ensures { λ r. ⌜ r ≡ onColumns (now (m .entry)) i v ⌝ }
 {
-    let v = half_columns(
-        v,
-        select(m, s, i, 0),
-        select(m, s, i, 2),
-        select(m, s, i, 4),
-        select(m, s, i, 6),
-        32,
-        24,
-    );
-    half_columns(
-        v,
-        select(m, s, i, 1),
-        select(m, s, i, 3),
-        select(m, s, i, 5),
-        select(m, s, i, 7),
-        16,
-        63,
-    )
+    let x0 = select(m, s, i, 0);
+    let x1 = select(m, s, i, 1);
+    let x2 = select(m, s, i, 2);
+    let x3 = select(m, s, i, 3);
+    let x4 = select(m, s, i, 4);
+    let x5 = select(m, s, i, 5);
+    let x6 = select(m, s, i, 6);
+    let x7 = select(m, s, i, 7);
+    let v = half_columns(v, x0, x2, x4, x6, 32, 24);
+    half_columns(v, x1, x3, x5, x7, 16, 63)
 }
 
 fn diagonals(v: [u64; 16], m: &[u64; 16], s: &Schedule, i: usize) -> [u64; 16]
     requires { ⌜ now s ≡ kept ⌝ }
     ensures { λ r. ⌜ r ≡ onDiagonals (now (m .entry)) i v ⌝ }
 {
-    let v = half_diagonals(
-        v,
-        select(m, s, i, 8),
-        select(m, s, i, 10),
-        select(m, s, i, 12),
-        select(m, s, i, 14),
-        32,
-        24,
-    );
-    half_diagonals(
-        v,
-        select(m, s, i, 9),
-        select(m, s, i, 11),
-        select(m, s, i, 13),
-        select(m, s, i, 15),
-        16,
-        63,
-    )
+    let x0 = select(m, s, i, 8);
+    let x1 = select(m, s, i, 9);
+    let x2 = select(m, s, i, 10);
+    let x3 = select(m, s, i, 11);
+    let x4 = select(m, s, i, 12);
+    let x5 = select(m, s, i, 13);
+    let x6 = select(m, s, i, 14);
+    let x7 = select(m, s, i, 15);
+    let v = half_diagonals(v, x0, x2, x4, x6, 32, 24);
+    half_diagonals(v, x1, x3, x5, x7, 16, 63)
 }
 
 fn half_columns(v: [u64; 16], x0: u64, x1: u64, x2: u64, x3: u64, p: u64, q: u64) -> [u64; 16]

@@ -9,13 +9,12 @@ use Rattle.blake2b_compress.proofs.diagonals.Tie as tie
 
 returns : tie.Need-returns
 returns c =
-    let first = c .before .before .before .before .before in
     words-halves (λ v a b c d. halfDiagonals v a b c d 32 24) (λ v a b c d. halfDiagonals v a b c d 16 63)
-    (first .before .before .before .before .select .ensures) (first .before .before .before .select2 .ensures) (first .before .before .select3 .ensures)
-    (first .before .select4 .ensures) (first .half-diagonals .ensures) (c .before .before .before .before .select5 .ensures)
-    (c .before .before .before .select6 .ensures) (c .before .before .select7 .ensures) (c .before .select8 .ensures)
-    (c .half-diagonals2 .ensures)
-    ∙ diagonals-halves _ _ _ (search (needs, first .before .before .before .before .before .good .0))
+    (c .before .before .before .before .before .before .before .before .before .select .ensures) (c .before .before .before .before .before .before .before .select3 .ensures)
+    (c .before .before .before .before .before .select5 .ensures) (c .before .before .before .select7 .ensures) (c .before .half-diagonals .ensures)
+    (c .before .before .before .before .before .before .before .before .select2 .ensures) (c .before .before .before .before .before .before .select4 .ensures)
+    (c .before .before .before .before .select6 .ensures) (c .before .before .select8 .ensures) (c .half-diagonals2 .ensures)
+    ∙ diagonals-halves _ _ _ (search (needs, c .before .before .before .before .before .before .before .before .before .before .good .0))
 
 pub diagonals-spec : {M : Type 1} → statement M
 diagonals-spec =
