@@ -10,6 +10,7 @@ pub mod writers;
 
 use crate::answer::{Answer, Value};
 use haspeljo_sys::*;
+use std::mem::MaybeUninit;
 
 /// What a result array holds before a call.
 const UNTOUCHED: u64 = 0x5bad_c0de_5bad_c0de;
@@ -184,9 +185,11 @@ pub fn is_bogus_v6(high: u64, low: u64, port: u16, mainnet: u8) -> Answer {
 }
 
 pub fn blake2b256(s: &[u8]) -> [u8; 32] {
-    let mut r = [0; 32];
-    unsafe { haspeljo_blake2b256(s.as_ptr(), s.len(), &mut r) };
-    r
+    let mut r = MaybeUninit::uninit();
+    unsafe {
+        haspeljo_blake2b256(s.as_ptr(), s.len(), r.as_mut_ptr());
+        r.assume_init()
+    }
 }
 
 pub fn frame_check(s: &[u8]) -> [u8; 4] {

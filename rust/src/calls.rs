@@ -3,6 +3,7 @@
 
 use crate::{Error, HandshakeConfig, Network, ProxyMode};
 use haspeljo_sys::*;
+use std::mem::MaybeUninit;
 
 /// The result array of an accepted call.
 fn call<const N: usize>(f: impl FnOnce(&mut [u64; N]) -> u8) -> Result<[u64; N], Error> {
@@ -88,9 +89,11 @@ pub fn is_bogus_v6(high: u64, low: u64, network: Network) -> bool {
 }
 
 pub fn blake2b256(s: &[u8]) -> [u8; 32] {
-    let mut r = [0; 32];
-    unsafe { haspeljo_blake2b256(s.as_ptr(), s.len(), &mut r) };
-    r
+    let mut r = MaybeUninit::uninit();
+    unsafe {
+        haspeljo_blake2b256(s.as_ptr(), s.len(), r.as_mut_ptr());
+        r.assume_init()
+    }
 }
 
 pub fn frame_check(s: &[u8]) -> [u8; 4] {
