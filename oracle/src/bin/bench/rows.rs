@@ -31,9 +31,6 @@ pub const HALF: f64 = 0.5;
 /// Elsewhere, as much as the Rust.
 pub const WHOLE: f64 = 1.0;
 
-/// For the writing of a handshake, a tenth more.
-pub const TENTH_MORE: f64 = 1.1;
-
 impl Row {
     pub fn new(name: &'static str, sides: Vec<Side>) -> Row {
         Row { name, mib: None, sides }

@@ -1,6 +1,6 @@
 //! Rows of writers. Our side writes into an output that is made once.
 
-use crate::rows::{Row, TENTH_MORE};
+use crate::rows::{Row, WHOLE};
 use crate::values::{self, Session, Writing};
 use std::hint::black_box;
 use std::rc::Rc;
@@ -19,7 +19,7 @@ pub fn rows() -> Vec<Row> {
 /// Our side asks every question before the first byte, the Rust asks none.
 fn handshake(calls: usize) -> Row {
     let writing = Rc::new(values::handshake());
-    Row::plain("write of a handshake", TENTH_MORE, ours(calls, &writing), rust(calls, &writing))
+    Row::plain("write of a handshake", WHOLE, ours(calls, &writing), rust(calls, &writing))
 }
 
 fn message(name: &'static str, calls: usize, writing: Writing) -> Row {
