@@ -208,7 +208,7 @@ fn put_string(out: &mut [u8], at: usize, s: &[u8]) -> usize
     put_part(out, at + 1, s)
 }
 
-// These two have room, so they are not refused.
+// Has room, so it is not refused.
 fn put_part(out: &mut [u8], at: usize, s: &[u8]) -> usize
     requires { ⌜ at + length (now s) ≤ length (now out) ⌝ }
     ensures { λ r. ⌜ Wrote (now (out .entry)) at (now (s .entry)) r (now (out .exit)) ⌝ }
@@ -217,10 +217,15 @@ fn put_part(out: &mut [u8], at: usize, s: &[u8]) -> usize
     at + s.len()
 }
 
+// Has room too. Most have one byte.
 fn put_vlq(out: &mut [u8], at: usize, value: u64) -> usize
     requires { ⌜ at + length (vlqBytes value) ≤ length (now out) ⌝ }
     ensures { λ r. ⌜ Wrote (now (out .entry)) at (vlqBytes value) r (now (out .exit)) ⌝ }
 {
+    if value < 0x80 {
+        out[at] = value as u8;
+        return at + 1;
+    }
     match write_vlq(out, at, value) {
         Written::To(end) => end,
         Written::Refused(_) => at,

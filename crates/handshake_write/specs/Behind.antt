@@ -1,9 +1,8 @@
--- What is said of a timestamp with an entry behind it.
+-- Where an entry stands behind a timestamp.
 use Prim.Native.Nat.{ℕ, _+_}
-use Rattle.wire.specs.declared.Written.{Written}
-use Rattle.wire.specs.declared.Written.the-variants.{To, Refused}
+use mathlib.Core.Bool.{cond}
+use lib.Dec.{leb}
 
--- what is said of v bytes before a value
-unfoldable pub longer : ℕ → Written → Written
-longer v (To n) = To (v + n)
-longer v (Refused m) = Refused m
+-- after v bytes from a place on in an output of len bytes; without room for them, a place from which nothing fits, outside if the first is
+unfoldable pub behind : ℕ → ℕ → ℕ → ℕ
+behind len at v = cond (leb (at + v) len) (at + v) (cond (leb at len) len at)

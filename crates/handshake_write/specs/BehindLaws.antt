@@ -1,89 +1,95 @@
--- Laws of bytes before a value that stands behind them, and of a timestamp before an entry.
+-- Laws of bytes before a value that stands behind them.
 use Prim.Native.Nat.{ℕ, _+_, _≤_, _<_}
 use native.Mathlib.Omega.{arith}
 use mathlib.Core.Bool.{Bool, true, false, cond}
 use mathlib.Core.List.{List, [], _∷_, _++_}
 use mathlib.Core.Path.{_≡_, refl, sym, ap, _∙_}
+use lib.Dec.{leb}
 use lib.ListN.{length, length-append}
-use borrow.Author.Tests.{le-leb, lt-leb}
-use Rattle.wire.specs.Output.{put, Question, ask, asked, written, outputAfter}
-use Rattle.wire.specs.OutputLaws.{written-accepted, wrote-length, wrote-to, wrote-checked, wrote-refused}
+use borrow.Author.Tests.{leb-true, leb-false, le-leb, lt-leb}
+use Rattle.wire.specs.Output.{put, Question, asked, written, outputAfter}
+use Rattle.wire.specs.OutputLaws.{in-order, written-accepted, wrote-length, wrote-to, wrote-checked, wrote-refused}
 use Rattle.wire.specs.StandingLaws.{put-behind, after-put, after-refused}
 use Rattle.wire.specs.declared.Written.{Written}
 use Rattle.wire.specs.declared.Written.the-variants.{To, Refused}
-use Rattle.vlq.specs.Vlq.{vlqBytes}
-use Rattle.handshake.specs.Value.{entryBytes, handshakeBytes}
-use Rattle.handshake.specs.Tables.{Lent, tablesWhole}
-use Rattle.handshake.specs.Writes.{entryAt, rowAsked, handshakeAt}
-use Rattle.entry_ask.specs.Asked.{entrySaid}
-use Rattle.entry_ask.specs.AskedLaws.{placed-row}
-use Rattle.output_ask.specs.Asked.{writtenFor, placed}
-use Rattle.output_ask.specs.CheckedLaws.{kept-unaccepted}
-use Rattle.handshake_write.specs.Behind.{longer}
+use Rattle.handshake.specs.Value.{EntryValue, entryBytes}
+use Rattle.handshake_write.specs.Behind.{behind}
 
-pub longer-asked : (v n : ℕ) (qs : List Question) → longer v (asked qs (To n)) ≡ asked qs (To (v + n))
-unfolding longer asked
-longer-asked v n [] = refl
-longer-asked v n (q ∷ qs) = go (q .holds) (longer-asked v n qs)
-  where
-    go : (t : Bool) → longer v (asked qs (To n)) ≡ asked qs (To (v + n))
-        → longer v (cond t (asked qs (To n)) (Refused (q .number))) ≡ cond t (asked qs (To (v + n))) (Refused (q .number))
-    go true e = e
-    go false e = refl
+-- ---- the place
 
--- without room for v bytes, it does not matter how many follow
-pub placed-full : (len at v n : ℕ) → len < at + v → placed len at (To v) ≡ placed len at (To (v + n))
-unfolding placed
-placed-full len at v n h = rw (lt-leb (at + v) len h, lt-leb (at + (v + n)) len (omega arith))
+behind-room : (len at v : ℕ) → at + v ≤ len → behind len at v ≡ at + v
+unfolding behind
+behind-room len at v h = rw (le-leb (at + v) len h)
 
--- ---- bytes before a value that stands behind them
+-- without room it is in the output where the first is, and at its end or further
+module _ (len at v : ℕ) (h : len < at + v) where
+  end-inside : (t : Bool) → leb at len ≡ t → leb (cond t len at) len ≡ t
+  end-inside true e = le-leb len len (omega arith)
+  end-inside false e = e
 
--- bytes b from the place m on, and then a before them from the place at on
-module _ (before after : List Question) (out : List ℕ) (at m : ℕ) (a b : List ℕ) (p : m ≡ at + length a) where
-  end-behind : m + length b ≡ at + length (a ++ b)
-  end-behind = omega (arith, p, length-append a b)
+  end-late : (t : Bool) → leb at len ≡ t → len ≤ cond t len at
+  end-late true e = omega arith
+  end-late false e = omega (arith, leb-false at len e)
 
-  written-behind : m ≤ length out → written before after out m b ≡ written before after out at (a ++ b)
+  behind-inside : leb (behind len at v) len ≡ leb at len
+  unfolding behind
+  behind-inside = rw (lt-leb (at + v) len h) (end-inside (leb at len) refl)
+
+  behind-late : len ≤ behind len at v
+  unfolding behind
+  behind-late = rw (lt-leb (at + v) len h) (end-late (leb at len) refl)
+
+-- ---- bytes a before bytes b that stand behind them, in an output from a place on
+
+module _ (before after : List Question) (out : List ℕ) (at m : ℕ) (a b : List ℕ) (p : m ≡ behind (length out) at (length a)) (some : 1 ≤ length b) where
+  roomy : at + length a ≤ length out → written before after out m b ≡ written before after out at (a ++ b)
   unfolding written
-  written-behind h = rw (end-behind, le-leb m (length out) h, le-leb at (length out) (omega (arith, p)))
+  roomy h =
+      let q : m ≡ at + length a = p ∙ behind-room (length out) at (length a) h in
+      let end : m + length b ≡ at + length (a ++ b) = omega (arith, q, length-append a b) in
+      rw (end, le-leb m (length out) (omega (arith, q, h)), le-leb at (length out) (omega (arith, h)))
+
+  no-room : (i : ℕ) (bs : List ℕ) → length out < i + length bs
+      → written before after out i bs ≡ asked before (cond (leb i (length out)) (asked after (Refused 14)) (Refused 12))
+  no-room i bs h = in-order before after out i bs ∙ rw (lt-leb (i + length bs) (length out) h)
+
+  full : length out < at + length a → written before after out m b ≡ written before after out at (a ++ b)
+  full h =
+      let inside : leb m (length out) ≡ leb at (length out) = ap (λ (i : ℕ). leb i (length out)) p ∙ behind-inside (length out) at (length a) h in
+      no-room m b (omega (arith, p, some, behind-late (length out) at (length a) h))
+      ∙ rw inside (sym (no-room at (a ++ b) (omega (arith, h, length-append a b))))
+
+  written-behind : written before after out m b ≡ written before after out at (a ++ b)
+  written-behind = go (leb (at + length a) (length out)) refl
+    where
+      go : (t : Bool) → leb (at + length a) (length out) ≡ t → written before after out m b ≡ written before after out at (a ++ b)
+      go true e = roomy (leb-true (at + length a) (length out) e)
+      go false e = full (leb-false (at + length a) (length out) e)
+
+  stands-behind : m + length b ≤ length out → m ≡ at + length a
+  stands-behind h = go (leb (at + length a) (length out)) refl
+    where
+      go : (t : Bool) → leb (at + length a) (length out) ≡ t → m ≡ at + length a
+      go true e = p ∙ behind-room (length out) at (length a) (leb-true (at + length a) (length out) e)
+      go false e = absurd (omega (arith, p, h, some, behind-late (length out) at (length a) (leb-false (at + length a) (length out) e)))
 
   -- the writer of b was called, said r and left mid
-  module _ {r : Written} {mid : List ℕ} (h : m ≤ length out) (says : r ≡ written before after out m b) (left : mid ≡ outputAfter r out m b) where
+  module _ {r : Written} {mid : List ℕ} (says : r ≡ written before after out m b) (left : mid ≡ outputAfter r out m b) where
     pub behind-stored : {e : ℕ} {x : Written} {last : List ℕ} → r ≡ To e → x ≡ written [] [] mid at a → last ≡ outputAfter x mid at a
         → (r ≡ written before after out at (a ++ b)) × (last ≡ outputAfter r out at (a ++ b))
     behind-stored {e} {x} {last} q say leave =
         let w = wrote-to before after out m b says left e q in
         let room = written-accepted before after out m b e (sym says ∙ q) .room in
-        let front = wrote-checked [] [] mid at a say leave tt tt (omega (arith, p, wrote-length w)) in (
-          says ∙ written-behind h,
-          after-put out at (a ++ b) q (front .bytes ∙ ap (λ (o : List ℕ). put o at a) (w .bytes) ∙ put-behind out at a b m p room),
+        let stands = stands-behind room in
+        let front = wrote-checked [] [] mid at a say leave tt tt (omega (arith, stands, room, wrote-length w)) in (
+          says ∙ written-behind,
+          after-put out at (a ++ b) q (front .bytes ∙ ap (λ (o : List ℕ). put o at a) (w .bytes) ∙ put-behind out at a b m stands room),
         )
 
     pub behind-refused : {e : ℕ} → r ≡ Refused e → (r ≡ written before after out at (a ++ b)) × (mid ≡ outputAfter r out at (a ++ b))
-    behind-refused {e} q =
-        (says ∙ written-behind h, wrote-refused before after out m b says left e q ∙ after-refused at (a ++ b) q)
+    behind-refused {e} q = (says ∙ written-behind, wrote-refused before after out m b says left e q ∙ after-refused at (a ++ b) q)
 
--- a writer that has no room refuses
-pub kept-full : (before after : List Question) (out : List ℕ) (at : ℕ) (bs : List ℕ) (r : Written) → length out < at + length bs
-    → r ≡ written before after out at bs → out ≡ outputAfter r out at bs
-kept-full before after out at bs r h says =
-    kept-unaccepted r out at bs (λ (e : ℕ) (p : r ≡ To e). omega (arith, written-accepted before after out at bs e (sym says ∙ p) .room))
-
--- ---- a timestamp with an entry
-
-pub length-handshake : (timestamp : ℕ) (l : Lent) (k : ℕ)
-    → length (handshakeBytes (handshakeAt timestamp l k)) ≡ length (vlqBytes timestamp) + length (entryBytes (entryAt l k))
-unfolding handshakeBytes
-length-handshake timestamp l k = length-append (vlqBytes timestamp) (entryBytes (entryAt l k))
-
-pub handshake-said : (len at timestamp : ℕ) (l : Lent) (k : ℕ) {v : ℕ} {w r : Written} → v ≡ length (vlqBytes timestamp) → w ≡ entrySaid l k
-    → r ≡ placed len at (longer v w)
-    → r ≡ writtenFor (ask 16 (tablesWhole l) ∷ []) (rowAsked l k) len at (length (handshakeBytes (handshakeAt timestamp l k)))
-unfolding entrySaid
-handshake-said len at timestamp l k {v} {w} e says answer =
-    let n = length (entryBytes (entryAt l k)) in
-    let qs = ask 16 (tablesWhole l) ∷ rowAsked l k in
-    let size : v + n ≡ length (handshakeBytes (handshakeAt timestamp l k)) = omega (arith, e, length-handshake timestamp l k) in
-    answer ∙ ap (λ (x : Written). placed len at (longer v x)) says ∙ ap (placed len at) (longer-asked v n qs)
-    ∙ ap (λ (m : ℕ). placed len at (asked qs (To m))) size
-    ∙ placed-row len at (length (handshakeBytes (handshakeAt timestamp l k))) (tablesWhole l) l k
+-- an entry has bytes
+pub entry-some : (e : EntryValue) → 1 ≤ length (entryBytes e)
+unfolding entryBytes
+entry-some e = omega arith

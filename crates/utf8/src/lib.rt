@@ -46,40 +46,40 @@ fn high_of(s: &[u8]) -> u8
     if n < 8 {
         return high_of_few(s);
     }
-    let mut m = high_of_eight(s, n - 8);
+    let mut m = high_of_block(s, n - 8, 8);
     let mut at = 0;
     while at + 8 < n {
         if 0 < m {
             return m;
         }
-        m = high_of_eight(s, at);
+        m = high_of_block(s, at, 8);
         at += 8;
     }
     m
 }
 
-// 0 only where none of the eight bytes from a place on is above 0x7F: each byte above it adds 1.
-fn high_of_eight(s: &[u8], at: usize) -> u8
-    requires { ⌜ at + 8 ≤ length (now s) ⌝ }
-    ensures { λ r. ⌜ (r ≡ 0 → UpTo (λ i. getD (now (s .entry)) i 0 ≤ 0x7f) at (at + 8)) ⌝ }
+// 0 only where none of the n bytes from a place on is above 0x7F: each byte above it adds 1.
+fn high_of_block(s: &[u8], at: usize, n: usize) -> u8
+    requires { ⌜ (at + n ≤ length (now s)) × (n ≤ 8) ⌝ }
+    ensures { λ r. ⌜ (r ≤ n) × (r ≡ 0 → UpTo (λ i. getD (now (s .entry)) i 0 ≤ 0x7f) at (at + n)) ⌝ }
 {
     let mut m: u8 = 0;
-    for i in 0..8 {
+    for i in 0..n {
         m += s[at + i] / 0x80;
     }
     m
 }
 
-// The same of all bytes of s, fewer than eight.
+// The same of all bytes of s, fewer than eight: by four at a time, if there are as many, the last four over the first.
 fn high_of_few(s: &[u8]) -> u8
     requires { ⌜ length (now s) < 8 ⌝ }
     ensures { λ r. ⌜ (r ≡ 0 → UpTo (λ i. getD (now (s .entry)) i 0 ≤ 0x7f) 0 (length (now (s .entry)))) ⌝ }
 {
-    let mut m: u8 = 0;
-    for i in 0..s.len() {
-        m += s[i] / 0x80;
+    let n = s.len();
+    if n < 4 {
+        return high_of_block(s, 0, n);
     }
-    m
+    high_of_block(s, 0, 4) + high_of_block(s, n - 4, 4)
 }
 
 // Is s a sequence of lead bytes with their followers?

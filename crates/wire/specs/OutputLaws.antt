@@ -169,7 +169,7 @@ pub record Accepted (before after : List Question) (out : List ℕ) (at : ℕ) (
 
 module _ (before after : List Question) (out : List ℕ) (at : ℕ) (bs : List ℕ) where
   -- the questions one after the other
-  in-order : written before after out at bs
+  pub in-order : written before after out at bs
       ≡ asked before
       (cond (leb at (length out)) (asked after (cond (leb (at + length bs) (length out)) (To (at + length bs)) (Refused 14))) (Refused 12))
   unfolding written asked

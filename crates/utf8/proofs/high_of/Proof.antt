@@ -21,7 +21,7 @@ returns : tie.Need-returns Inv-loop μ-loop
 returns c = c .high-of-few .ensures
 
 loop-holds : tie.Need-loop-holds Inv-loop μ-loop
-loop-holds c = (omega arith, omega arith, λ z. (c .high-of-eight .ensures z, upto-start _ _ _ (omega arith)))
+loop-holds c = (omega arith, omega arith, λ z. (c .high-of-block .ensures .1 z, upto-start _ _ _ (omega arith)))
 
 returns-2 : tie.Need-returns-2 Inv-loop μ-loop
 returns-2 c z = absurd (omega (arith, z, c .if2 .taken))
@@ -31,7 +31,7 @@ loop-again c =
     let l = c .before .before .before .loop in
     let s = c .before .before .before .before .before .before .before .args .s .now in
     let so = l .inv .2 (omega (arith, c .before .if2 .left)) in
-    (omega arith, l .inv .1, λ z. (so .0, ascii-join s 0 (l .at) _ _ (so .1) (c .high-of-eight2 .ensures z) (omega arith)))
+    (omega arith, l .inv .1, λ z. (so .0, ascii-join s 0 (l .at) _ _ (so .1) (c .high-of-block2 .ensures .1 z) (omega arith)))
 
 returns-3 : tie.Need-returns-3 Inv-loop μ-loop
 returns-3 c z =

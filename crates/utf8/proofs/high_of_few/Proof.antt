@@ -1,45 +1,30 @@
--- `utf8::high_of_few` meets its contract: before each turn m is 0 only where none of the first i bytes is above 0x7F.
-use Prim.Native.Nat.{_-_, _≤_}
+-- `utf8::high_of_few` meets its contract: the two blocks of four have no gap between them.
 use native.Mathlib.Omega.{arith}
-use mathlib.Core.Path.{_≡_}
-use lib.ListN.{length, getD}
-use Rattle.wire.specs.UpTo.{UpTo}
-use Rattle.wire.specs.UpToLaws.{upto-start, upto-end}
-use Rattle.utf8.specs.AsciiLaws.{high-next}
+use Rattle.wire.specs.UpToLaws.{upto-end}
+use Rattle.utf8.specs.AsciiLaws.{ascii-join}
 use Rattle.utf8.proofs.high_of_few.Statement.{statement}
 use Rattle.utf8.proofs.high_of_few.Tie as tie
 
-abbrev Inv-loop : tie.InvT-loop
-Inv-loop s m₀ i₀ i-end m i = (m ≤ i) × (m ≡ 0 → UpTo (λ k. getD s k 0 ≤ 0x7f) 0 i)
+returns : tie.Need-returns
+returns c z = upto-end _ _ _ _ (c .high-of-block .ensures .1 z) (omega arith)
 
-abbrev μ-loop : tie.MeasureT-loop
-μ-loop s m₀ i₀ i-end m i = length s - i
+add-result : tie.Need-add-result
+add-result c = omega (arith, c .high-of-block3 .ensures .0, c .before .high-of-block2 .ensures .0)
 
-loop-holds : tie.Need-loop-holds Inv-loop μ-loop
-loop-holds c = (omega arith, λ z. upto-start _ _ _ (omega arith))
-
-add-m : tie.Need-add-m Inv-loop μ-loop
-add-m c = omega (arith, c .shared-slice-known .given (c .before .before .loop .i))
-
-loop-again : tie.Need-loop-again Inv-loop μ-loop
-loop-again c =
-    let l = c .before .before .loop in
-    let b = c .shared-slice-known .given (l .i) in
-    (omega (arith, b), high-next (c .before .before .before .args .s .now) 0 (l .i) _ (l .m) _ (l .inv .1) (λ z. (omega arith, omega arith)) (omega arith))
-
-returns : tie.Need-returns Inv-loop μ-loop
-returns c z = let l = c .before .loop in upto-end _ _ _ _ (l .inv .1 z) (omega arith)
+returns-2 : tie.Need-returns-2
+returns-2 c z =
+    let s = c .before .before .before .before .args .s .now in
+    let first = c .before .high-of-block2 .ensures .1 (omega (arith, z)) in
+    let last = c .high-of-block3 .ensures .1 (omega (arith, z)) in
+    ascii-join s 0 _ _ _ first (upto-end _ _ _ _ last (omega arith)) (omega arith)
 
 pub high-of-few-spec : {M : Type 1} → statement M
 high-of-few-spec =
     tie.close
     (tie.spec
-    Inv-loop
-    μ-loop
-    loop-holds
-    (λ c. omega arith)
-    add-m
-    (λ c. omega arith)
-    (λ c. omega arith)
-    loop-again
-    returns)
+    (λ c κs. (omega arith, omega arith))
+    returns
+    (λ c κs. (omega arith, omega arith))
+    (λ c κs. (omega arith, omega arith))
+    add-result
+    returns-2)
