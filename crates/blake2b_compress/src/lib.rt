@@ -1,7 +1,7 @@
 // The compression function F of BLAKE2b (RFC 7693, 3.2).
 ghost use mathlib.Core.List.{_++_};
 ghost use mathlib.Core.Path.{_≡_};
-ghost use Prim.Native.Nat.{_+_, _*_, _%_, _^_, _<_};
+ghost use Prim.Native.Nat.{_+_, _*_, _^_, _<_};
 ghost use Rattle.blake2b.specs.Blake2b.{_>>>_, IV as Blake2b·IV, round, for, F};
 ghost use Rattle.blake2b_compress.specs.Parts.{halfColumns, halfDiagonals, addWords, halfStart, halfEnd, kept, onColumns, onDiagonals, four, work, xored};
 use crate::schedule::Schedule;

@@ -13,7 +13,6 @@ ghost use Rattle.entry_length.specs.Length.{rowFits, featureFits, rowLen
 use entry_questions::address_inside;
 use entry_questions::is_inside;
 use entry_questions::strings_utf8;
-use entry_rows::feature_at;
 use handshake::EntryRow;
 use handshake::FeatureRow;
 use vlq_write::vlq_len;
@@ -78,7 +77,12 @@ fn features_len(before: usize, features: &[u32], buffer: &[u8], first: usize, co
     let mut m = before;
     let mut k: usize = 0;
     while k < count {
-        let f = feature_at(features, first + k);
+        let b = 3 * (first + k);
+        let f = FeatureRow {
+            id: features[b],
+            at: features[b + 1],
+            len: features[b + 2],
+        };
         if !feature_fits(buffer.len(), f) {
             return 0;
         }

@@ -22,7 +22,6 @@ use entry_ask::ask_entries;
 use entry_ask::ask_entry;
 use entry_rows::address_size;
 use entry_rows::entry_at;
-use entry_rows::feature_at;
 use handshake::EntryRow;
 use handshake::FeatureRow;
 use output_ask::ask_place;
@@ -172,7 +171,13 @@ fn put_features(out: &mut [u8], at: usize, features: &[u32], buffer: &[u8], e: E
     let mut o = at;
     let mut k: usize = 0;
     while k < count {
-        o = put_feature(out, o, buffer, feature_at(features, first + k));
+        let b = 3 * (first + k);
+        let f = FeatureRow {
+            id: features[b],
+            at: features[b + 1],
+            len: features[b + 2],
+        };
+        o = put_feature(out, o, buffer, f);
         k += 1;
     }
     o

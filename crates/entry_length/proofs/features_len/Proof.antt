@@ -9,7 +9,6 @@ use lib.ListN.{length, length-append}
 use borrow.Author.Needs.{needs}
 use borrow.Author.Tests.{not-true, not-false}
 use Rattle.wire.specs.Bytes.{every}
-use Rattle.vlq.specs.Vlq.{vlqBytes}
 use Rattle.handshake.specs.declared.FeatureRow.{FeatureRow}
 use Rattle.handshake.specs.Value.{featureBytes}
 use Rattle.handshake.specs.Tables.{rows, featureRow, featureOf}
@@ -33,16 +32,13 @@ loop-holds c =
     let a = c .before .before .args in
     (rw (sub-zero, rows-from (featureRow (now (a .features))) (a .first) (a .count)) (omega arith), omega arith, passed-start _ _ _)
 
-feature-at-requires : tie.Need-feature-at-requires Inv-loop μ-loop
-feature-at-requires c κs = omega arith
-
 returns : tie.Need-returns Inv-loop μ-loop
 returns c =
-    let a = c .before .before .before .before .before .before .before .args in
-    let l = c .before .before .before .before .loop in
+    let a = c .before .before .before .before .before .before .before .before .before .args in
+    let l = c .before .before .before .before .before .before .loop in
     let n = length (now (a .buffer)) in
-    let h = sym (ap (featureFits n) (c .before .before .feature-at .ensures)) ∙ sym (c .before .feature-fits .ensures) ∙ not-true _ (c .if1 .taken) in
-    let no = passed-not (l .inv .2) (c .before .before .before .loop-test .taken) h ∙ ap (every (featureFits n)) (rows-from (featureRow (now (a .features))) (a .first) (a .count)) in
+    let h = sym (c .before .feature-fits .ensures) ∙ not-true _ (c .if1 .taken) in
+    let no = passed-not (l .inv .2) (c .before .before .before .before .before .loop-test .taken) h ∙ ap (every (featureFits n)) (rows-from (featureRow (now (a .features))) (a .first) (a .count)) in
     (rw (sym no), omega arith)
 
 add-m : tie.Need-add-m Inv-loop μ-loop
@@ -50,16 +46,15 @@ add-m c = omega (arith, c .feature-len .ensures .1)
 
 loop-again : tie.Need-loop-again Inv-loop μ-loop
 loop-again c =
-    let a = c .before .before .before .before .before .before .before .before .args in
-    let l = c .before .before .before .before .before .loop in
+    let a = c .before .before .before .before .before .before .before .before .before .before .args in
+    let l = c .before .before .before .before .before .before .before .loop in
     let s = now (a .buffer) in
     let g = featureOf s in
     let f : ℕ → FeatureRow = λ i. featureRow (now (a .features)) (a .first + i) in
-    let t = c .before .before .before .before .loop-test .taken in
-    let row = c .before .before .before .feature-at .ensures in
-    let fit = sym (ap (featureFits (length s)) row) ∙ sym (c .before .before .feature-fits .ensures) ∙ not-false _ (c .before .if1 .left) in
+    let t = c .before .before .before .before .before .before .loop-test .taken in
+    let fit = sym (c .before .before .feature-fits .ensures) ∙ not-false _ (c .before .if1 .left) in
     let next = ap length (bytes-next featureBytes g f (l .k) (a .count) t) in
-    let one : c .feature-len .result ≡ length (featureBytes (g (f (l .k)))) = c .feature-len .ensures .0 ∙ ap (λ (r : FeatureRow). 1 + length (vlqBytes (r .len)) + r .len) row ∙ sym (length-fitting s (f (l .k)) fit) in
+    let one : c .feature-len .result ≡ length (featureBytes (g (f (l .k)))) = c .feature-len .ensures .0 ∙ sym (length-fitting s (f (l .k)) fit) in
     let both = length-append (featureBytes (g (f (l .k)))) (flatMap featureBytes (map g (rows f (l .k + 1) (a .count - (l .k + 1))))) in
     (omega (arith, l .inv .0, next, one, both), omega (arith, c .feature-len .ensures .1), passed-next (l .inv .2) t fit)
 
@@ -80,7 +75,15 @@ features-len-spec =
     μ-loop
     loop-holds
     (λ c. omega arith)
-    feature-at-requires
+    (λ c. omega arith)
+    (λ c. omega arith)
+    (λ c. omega arith)
+    (λ c. omega arith)
+    (λ c. omega arith)
+    (λ c. omega arith)
+    (λ c. omega arith)
+    (λ c. omega arith)
+    (λ c. omega arith)
     (λ c κs. search needs)
     returns
     (λ c κs. search needs)

@@ -30,19 +30,12 @@ loop-holds c =
     let p = c .before .before .before .before .before .pre .1 in
     (omega arith, putting-start _ _ _ _ _ _ _ (rw e (p .0 .0)) (rw e (p .1)))
 
-add-feature-at : tie.Need-add-feature-at Inv-loop μ-loop
-add-feature-at c = omega arith
-
-feature-at-requires : tie.Need-feature-at-requires Inv-loop μ-loop
-feature-at-requires c κs = omega (arith, c .before .before .before .before .before .before .before .before .pre .0)
-
 put-feature-requires : tie.Need-put-feature-requires Inv-loop μ-loop
 put-feature-requires c κs =
-    let s = c .before .before .before .before .before .before .before .before .before in
-    let p = c .before .before .before .loop .inv .1 in
-    let k = c .before .before .before .loop .k in
-    let within = part-inside (now (s .args .buffer)) (now (s .args .features)) (s .args .e .first) (s .args .e .count) k (s .pre .1 .0 .1) (omega arith) in
-    rw (c .feature-at .ensures) ((putting-passed p (omega arith), within), putting-room p (omega arith))
+    let s = c .before .before .before .before .before .before .before .before .before .before .before in
+    let l = c .before .before .before .before .before .loop in
+    let within = part-inside (now (s .args .buffer)) (now (s .args .features)) (s .args .e .first) (s .args .e .count) (l .k) (s .pre .1 .0 .1) (omega arith) in
+    ((putting-passed (l .inv .1) (omega arith), within), putting-room (l .inv .1) (omega arith))
 
 add-k : tie.Need-add-k Inv-loop μ-loop
 add-k c = omega arith
@@ -52,8 +45,8 @@ loop-less c = omega arith
 
 loop-again : tie.Need-loop-again Inv-loop μ-loop
 loop-again c =
-    let l = c .before .before .before .before .before .before .loop in
-    (l .inv .0, putting-turn (l .inv .1) (omega arith) (rw (c .before .before .before .feature-at .ensures) at (c .before .before .put-feature .ensures)))
+    let l = c .before .before .before .before .before .before .before .before .loop in
+    (l .inv .0, putting-turn (l .inv .1) (omega arith) (c .before .before .put-feature .ensures))
 
 same-length : tie.Need-same-length Inv-loop μ-loop
 same-length c = c .before .loop .inv .1 .writing .long
@@ -72,8 +65,16 @@ put-features-spec =
     cast-first
     cast-count
     loop-holds
-    add-feature-at
-    feature-at-requires
+    (λ c. omega (arith, c .before .before .before .before .before .before .before .pre .0))
+    (λ c. omega (arith, c .before .before .before .before .before .before .before .pre .0))
+    (λ c. omega (arith, c .before .before .before .before .before .before .before .pre .0))
+    (λ c. omega (arith, c .before .before .before .before .before .before .before .before .pre .0))
+    (λ c. omega (arith, c .before .before .before .before .before .before .before .before .pre .0))
+    (λ c. omega (arith, c .before .before .before .before .before .before .before .before .pre .0))
+    (λ c. omega (arith, c .before .before .before .before .before .before .before .before .before .pre .0))
+    (λ c. omega (arith, c .before .before .before .before .before .before .before .before .before .pre .0))
+    (λ c. omega (arith, c .before .before .before .before .before .before .before .before .before .pre .0))
+    (λ c. omega (arith, c .before .before .before .before .before .before .before .before .before .before .pre .0))
     put-feature-requires
     add-k
     loop-less
