@@ -128,31 +128,37 @@ feature-stands s at q = id-stands at (bind-got (byte s at) (lengthThen s) q)
 
 -- ---- the features that were read
 
-pub features-listed : (s : List ℕ) (at : ℕ) {l : EntryFeatures} {e : ℕ} → features s at ≡ got l e → Listed (λ before. feature) s [] (l .first) (l .features) e
+features-read : (s : List ℕ) (at : ℕ) {l : EntryFeatures} {e : ℕ} → features s at ≡ got l e
+    → listOf (length (l .features)) (λ before. feature) s (l .first) ≡ got (l .features) e
 unfolding features
-features-listed s at {l} {e} q =
+features-read s at {l} {e} q =
     let a = bind-got (byte s at) (λ count n. bind (listOf count (λ before. feature) s n) (λ l m. got (listing n l) m)) q in
     let b = bind-got (listOf (a .value) (λ before. feature) s (a .next)) (λ l m. got (listing (a .next) l) m) (a .rest) in
-    go (a .next) (b .value) (b .rest) (listed (λ before. feature) s (a .value) (a .next) (b .answer) .1)
+    go (a .next) (b .value) (b .rest) (rw (listed (λ before. feature) s (a .value) (a .next) (b .answer) .0) (b .answer))
   where
-    go : (n : ℕ) (fs : List EntryFeature) {m : ℕ} → got (listing n fs) m ≡ got l e → Listed (λ before. feature) s [] n fs m
-        → Listed (λ before. feature) s [] (l .first) (l .features) e
+    go : (n : ℕ) (fs : List EntryFeature) {m : ℕ} → got (listing n fs) m ≡ got l e → listOf (length fs) (λ before. feature) s n ≡ got fs m
+        → listOf (length (l .features)) (λ before. feature) s (l .first) ≡ got (l .features) e
     go n fs {m} q h =
         let u : listing n fs ≡ l = cc in
         let v : m ≡ e = cc in
         rw (← u, ← v) h
 
-pub entry-listed : (s : List ℕ) (at : ℕ) {e : Entry} {next : ℕ} → entry s at ≡ got e next → Listed (λ before. feature) s [] (e .first) (e .features) next
-entry-listed s at {e} {next} q =
+pub entry-read : (s : List ℕ) (at : ℕ) {e : Entry} {next : ℕ} → entry s at ≡ got e next
+    → listOf (length (e .features)) (λ before. feature) s (e .first) ≡ got (e .features) next
+entry-read s at {e} {next} q =
     let a = bind-got (head s at) (λ h n. bind (features s n) (λ l m. got (entryOf h l) m)) (sym (entry-parts s at) ∙ q) in
     let b = bind-got (features s (a .next)) (λ l m. got (entryOf (a .value) l) m) (a .rest) in
-    go (entryOf (a .value) (b .value)) (b .rest) (features-listed s (a .next) (b .answer))
+    go (entryOf (a .value) (b .value)) (b .rest) (features-read s (a .next) (b .answer))
   where
-    go : (d : Entry) {m : ℕ} → got d m ≡ got e next → Listed (λ before. feature) s [] (d .first) (d .features) m → Listed (λ before. feature) s [] (e .first) (e .features) next
+    go : (d : Entry) {m : ℕ} → got d m ≡ got e next → listOf (length (d .features)) (λ before. feature) s (d .first) ≡ got (d .features) m
+        → listOf (length (e .features)) (λ before. feature) s (e .first) ≡ got (e .features) next
     go d {m} q h =
         let u : d ≡ e = cc in
         let v : m ≡ next = cc in
         rw (← u, ← v) h
+
+pub entry-listed : (s : List ℕ) (at : ℕ) {e : Entry} {next : ℕ} → entry s at ≡ got e next → Listed (λ before. feature) s [] (e .first) (e .features) next
+entry-listed s at {e} q = listed (λ before. feature) s (length (e .features)) (e .first) (entry-read s at q) .1
 
 -- the first feature with an id stands in s
 pub first-stands : (s : List ℕ) (id : ℕ) {before : List EntryFeature} {at e : ℕ} {l : List EntryFeature} → Listed (λ before. feature) s before at l e → {f : EntryFeature} → firstFeature id l ≡ some f → (m : ℕ) × Stands s f m

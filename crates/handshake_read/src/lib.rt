@@ -62,11 +62,11 @@ pub enum SizeRead {
 }
 
 // An entry without its features.
-pub struct Head {
-    pub agent: Part,
-    pub version: Version,
-    pub name: Part,
-    pub address: Address,
+struct Head {
+    agent: Part,
+    version: Version,
+    name: Part,
+    address: Address,
 }
 
 enum VersionRead {
@@ -74,7 +74,7 @@ enum VersionRead {
     Refused(u8),
 }
 
-pub enum HeadRead {
+enum HeadRead {
     Value(Head, Cursor),
     Refused(u8),
 }
@@ -196,7 +196,7 @@ fn read_version(s: &[u8], c: Cursor) -> VersionRead
 }
 
 // Agent, version, name and address.
-pub fn read_head(s: &[u8], c: Cursor) -> HeadRead
+fn read_head(s: &[u8], c: Cursor) -> HeadRead
     ensures { λ r. ⌜ headAnswer r ≡ mapAnswer headOf (head (now (s .entry)) (c .at)) ⌝ }
 {
     match c.read_short_string(s) {

@@ -12,12 +12,11 @@ use Rattle.wire.specs.AnswerLaws.{no-answer, bind-got}
 use Rattle.wire.specs.ReaderLaws.{length-part, part-at}
 use Rattle.utf8.specs.Utf8.{utf8}
 use Rattle.vlq.specs.ShortString.{string, shortString}
+use Rattle.handshake.specs.Entry.{Entry}
 use Rattle.handshake.specs.Verdict.{firstFeature, stringFrom, urlOf, restApiUrl}
 use Rattle.handshake_read.specs.declared.Feature.{Feature}
 use Rattle.handshake_verdict.specs.declared.Found.{Found}
 use Rattle.handshake_verdict.specs.declared.Found.the-variants.{At}
-use Rattle.handshake_read.specs.Parts.{EntryHead, EntryFeatures, features}
-use Rattle.handshake_read.specs.PartsLaws.{entryOf}
 use Rattle.handshake_verdict.specs.Answers.{partIfAny, entryUrl, foundIn, Inside}
 use Rattle.handshake_verdict.proofs.FoundLaws.{FoundFirst}
 
@@ -53,7 +52,7 @@ module _ (s : List ℕ) (f : Feature) where
   unfolding urlOf stringFrom
   url-none q = let z : f .body .start + f .body .len - f .body .start ≡ f .body .len = omega arith in rw (rw z at q)
 
--- from the parts of an entry to the entry
-pub url-read : (s : List ℕ) (h : EntryHead) (l : EntryFeatures) {first : Found} {u : Option Part} → FoundFirst s first (firstFeature 4 (l .features)) → u ≡ partIfAny (urlOf (foundIn s first)) → u ≡ entryUrl (entryOf h l)
+-- from what was read of an entry to the entry
+pub url-read : (s : List ℕ) (x : Entry) {first : Found} {u : Option Part} → FoundFirst s first (firstFeature 4 (x .features)) → u ≡ partIfAny (urlOf (foundIn s first)) → u ≡ entryUrl x
 unfolding restApiUrl
-url-read s h l f q = q ∙ rw (f .same)
+url-read s x f q = q ∙ rw (f .same)

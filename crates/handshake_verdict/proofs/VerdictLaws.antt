@@ -18,13 +18,11 @@ use Rattle.types.specs.Order.{below, eip37Min}
 use Rattle.handshake.specs.Entry.{EntryFeature, Entry, entry, EntryHandshake, handshake}
 use Rattle.handshake.specs.Verdict.{firstFeature, otherMagic, validatePeer}
 use Rattle.handshake_read.specs.declared.Feature.{Feature}
-use Rattle.handshake_read.specs.declared.Head.{Head}
+use Rattle.handshake_read.specs.declared.PeerSpec.{PeerSpec}
 use Rattle.handshake_verdict.specs.declared.Found.{Found}
 use Rattle.handshake_verdict.specs.declared.Found.the-variants.{At}
-use Rattle.handshake_read.specs.Parts.{EntryHead, EntryFeatures, features}
 use Rattle.handshake_verdict.specs.Answers.{verdictOf}
-use Rattle.handshake_read.specs.PartsLaws.{entryOf}
-use Rattle.handshake_read.specs.Answers.{headOf}
+use Rattle.handshake_read.specs.Answers.{peerSpecOf}
 use Rattle.handshake_verdict.specs.Answers.{handshakeVerdict, foundIn, Inside}
 use Rattle.handshake_verdict.proofs.FoundLaws.{FoundFirst}
 
@@ -55,11 +53,11 @@ module _ (network : Network) (v : Version) where
         go true = refl
         go false = refl
 
--- from the parts of an entry to the entry
-pub verdict-read : (s : List ℕ) (h : EntryHead) (l : EntryFeatures) {first : Found} (network : Network) {read : Head} {v : ℕ} → headOf h ≡ read → FoundFirst s first (firstFeature 3 (l .features))
-    → v ≡ verdictOf network (read .version) (foundIn s first) → v ≡ validatePeer network (entryOf h l)
+-- from what was read of an entry to the entry
+pub verdict-read : (s : List ℕ) (x : Entry) {first : Found} (network : Network) {peer : PeerSpec} {v : ℕ} → peerSpecOf x ≡ peer → FoundFirst s first (firstFeature 3 (x .features))
+    → v ≡ verdictOf network (peer .version) (foundIn s first) → v ≡ validatePeer network x
 unfolding verdictOf validatePeer
-verdict-read s h l network e f q = q ∙ rw (← e, f .same)
+verdict-read s x network e f q = q ∙ rw (← e, f .same)
 
 -- a timestamp, and the entry after it
 pub handshake-verdict : (network : Network) (s : List ℕ) {t n : ℕ} → vlq s 0 ≡ got t n

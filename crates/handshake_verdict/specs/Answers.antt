@@ -12,7 +12,6 @@ use Rattle.types.specs.declared.Network.{Network}
 use Rattle.types.specs.Order.{below, eip37Min}
 use Rattle.handshake.specs.Entry.{EntryFeature, Entry, EntryHandshake}
 use Rattle.handshake.specs.Verdict.{firstFeature, otherMagic, validatePeer, restApiUrl}
-use Rattle.handshake_read.specs.Parts.{EntryFeatures}
 use Rattle.handshake_read.specs.Answers.{featureOf}
 use Rattle.handshake_read.specs.declared.Feature.{Feature}
 use Rattle.handshake_verdict.specs.declared.Found.{Found}
@@ -39,9 +38,6 @@ partIfAny (some g) = some (partOf g)
 -- of features, the first with an id
 abbrev pub firstIn : ℕ → List EntryFeature → Option Feature
 firstIn id l = featureIfAny (firstFeature id l)
-
-abbrev pub firstOf : ℕ → EntryFeatures → Option Feature
-firstOf id l = firstIn id (l .features)
 
 abbrev pub handshakeVerdict : Network → EntryHandshake → ℕ
 handshakeVerdict network h = validatePeer network (h .entry)

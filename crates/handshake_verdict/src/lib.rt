@@ -4,17 +4,16 @@ ghost use lib.ListN.{length};
 ghost use Rattle.wire.specs.Reader.{mapAnswer, listOf};
 ghost use Rattle.handshake.specs.Entry.{feature, entry, handshake};
 ghost use Rattle.handshake.specs.Verdict.{validatePeer, urlOf};
-ghost use Rattle.handshake_read.specs.Parts.{features};
-ghost use Rattle.handshake_verdict.specs.Answers.{firstIn, firstOf, handshakeVerdict, entryUrl, partIfAny, verdictOf};
+ghost use Rattle.handshake_verdict.specs.Answers.{firstIn, handshakeVerdict, entryUrl, partIfAny, verdictOf};
 ghost use Rattle.handshake_verdict.specs.Answers.{found, orThis, foundIn, Inside, firstAnswer, verdictAnswer, url, urlAnswer};
 use handshake::FEATURE_REST_API;
 use handshake::FEATURE_SESSION;
+use handshake_read::EntryRead;
 use handshake_read::Feature;
 use handshake_read::FeatureRead;
-use handshake_read::HeadRead;
+use handshake_read::Features;
 use types::Network;
 use types::Version;
-use vlq::ByteRead;
 use vlq::Cursor;
 use vlq::PartRead;
 use vlq::VlqRead;
@@ -61,15 +60,15 @@ pub fn validate_peer(s: &[u8], network: Network) -> VerdictRead
 pub fn validate_entry(s: &[u8], c: Cursor, network: Network) -> VerdictRead
     ensures { λ r. ⌜ verdictAnswer r ≡ mapAnswer (validatePeer network) (entry (now (s .entry)) (c .at)) ⌝ }
 {
-    match handshake_read::read_head(s, c) {
-        HeadRead::Value(h, d) => match read_first(s, d, FEATURE_SESSION) {
-            FirstRead::Value(first, e) => VerdictRead::Value(
-                verdict(s, h.version, first, network),
+    match handshake_read::parse_peer_entry(s, c) {
+        EntryRead::Value(peer, e) => match read_first(s, peer.features, FEATURE_SESSION) {
+            FirstRead::Value(first, f) => VerdictRead::Value(
+                verdict(s, peer.version, first, network),
                 e,
             ),
             FirstRead::Refused(m) => VerdictRead::Refused(m),
         },
-        HeadRead::Refused(m) => VerdictRead::Refused(m),
+        EntryRead::Refused(m) => VerdictRead::Refused(m),
     }
 }
 
@@ -77,30 +76,21 @@ pub fn validate_entry(s: &[u8], c: Cursor, network: Network) -> VerdictRead
 pub fn rest_api_url(s: &[u8], c: Cursor) -> UrlRead
     ensures { λ r. ⌜ urlAnswer r ≡ mapAnswer entryUrl (entry (now (s .entry)) (c .at)) ⌝ }
 {
-    match handshake_read::read_head(s, c) {
-        HeadRead::Value(h, d) => match read_first(s, d, FEATURE_REST_API) {
-            FirstRead::Value(first, e) => UrlRead::Value(url_of(s, first), e),
+    match handshake_read::parse_peer_entry(s, c) {
+        EntryRead::Value(peer, e) => match read_first(s, peer.features, FEATURE_REST_API) {
+            FirstRead::Value(first, f) => UrlRead::Value(url_of(s, first), e),
             FirstRead::Refused(m) => UrlRead::Refused(m),
         },
-        HeadRead::Refused(m) => UrlRead::Refused(m),
+        EntryRead::Refused(m) => UrlRead::Refused(m),
     }
 }
 
-// A feature count byte, and the first of the features with an id.
-fn read_first(s: &[u8], c: Cursor, id: u8) -> FirstRead
-    ensures { λ r. ⌜ firstAnswer r ≡ mapAnswer (firstOf id) (features (now (s .entry)) (c .at)) ⌝ }
+// The first of some features with an id.
+fn read_first(s: &[u8], features: Features, id: u8) -> FirstRead
+    ensures { λ r. ⌜ firstAnswer r ≡ mapAnswer (firstIn id) (listOf (features .count) (λ before. feature) (now (s .entry)) (features .start)) ⌝ }
 {
-    match c.read_byte(s) {
-        ByteRead::Value(count, d) => first_feature(s, d, count, id),
-        ByteRead::Refused(m) => FirstRead::Refused(m),
-    }
-}
-
-// n features: the first of them with an id.
-fn first_feature(s: &[u8], c: Cursor, n: u8, id: u8) -> FirstRead
-    ensures { λ r. ⌜ firstAnswer r ≡ mapAnswer (firstIn id) (listOf n (λ before. feature) (now (s .entry)) (c .at)) ⌝ }
-{
-    let mut d = c;
+    let n = features.count;
+    let mut d = Cursor { at: features.start };
     let mut first = Found::None;
     let mut i: u8 = 0;
     while i < n {

@@ -2,10 +2,9 @@
 use mathlib.Core.Path.{sym, ap, _∙_}
 use Rattle.wire.specs.ReaderLaws.{map-got, map-refused, map-value, map-refusal}
 use denote.Ref.{now}
-use Rattle.handshake_read.specs.PartsLaws.{entry-parts}
-use Rattle.handshake_read.specs.Answers.{headOf, headAnswer}
-use Rattle.handshake_verdict.specs.Answers.{firstOf, firstAnswer}
-use Rattle.handshake_verdict.proofs.FoundLaws.{found-first}
+use Rattle.handshake_read.specs.Answers.{peerSpecOf, entryAnswer}
+use Rattle.handshake_verdict.specs.Answers.{firstAnswer}
+use Rattle.handshake_verdict.proofs.FoundLaws.{first-found, first-there}
 use Rattle.handshake_verdict.proofs.VerdictLaws.{verdict-read}
 use borrow.Author.Needs.{needs}
 use Rattle.handshake_verdict.proofs.validate_entry.Statement.{statement}
@@ -13,29 +12,27 @@ use Rattle.handshake_verdict.proofs.validate_entry.Tie as tie
 
 verdict-requires : tie.Need-verdict-requires
 verdict-requires c κs =
-    let e2 = map-got (firstOf 3) (sym (c .before .before .before .read-first .ensures) ∙ ap firstAnswer (c .before .first .given .1)) in
-    found-first (now (c .before .before .before .before .before .before .before .before .before .args .s)) 3 _ (c .before .first .given .0 .0) (e2 .1) (e2 .2) .inside
+    let e = map-got peerSpecOf (sym (c .before .before .before .before .before .before .before .parse-peer-entry .ensures) ∙ ap entryAnswer (c .before .before .before .before .before .peer .given .1)) in
+    let a = c .before .before .before .before .before .before .before .before .before .args in
+    first-found (now (a .s)) (a .c .at) (e .1) (e .2) 3 (c .before .first .given .0 .0) (sym (c .before .before .before .read-first .ensures) ∙ ap firstAnswer (c .before .first .given .1)) .inside
 
 returns : tie.Need-returns
 returns c =
-    let e1 = map-got headOf (sym (c .before .before .before .before .before .before .before .before .read-head .ensures) ∙ ap headAnswer (c .before .before .before .before .before .before .h .given .1)) in
-    let e2 = map-got (firstOf 3) (sym (c .before .before .before .before .read-first .ensures) ∙ ap firstAnswer (c .before .before .first .given .1)) in
+    let e = map-got peerSpecOf (sym (c .before .before .before .before .before .before .before .before .parse-peer-entry .ensures) ∙ ap entryAnswer (c .before .before .before .before .before .before .peer .given .1)) in
     let a = c .before .before .before .before .before .before .before .before .before .before .args in
-    let f = found-first (now (a .s)) 3 _ (c .before .before .first .given .0 .0) (e2 .1) (e2 .2) in
-    rw (entry-parts (now (a .s)) (a .c .at), e1 .1, e2 .1, map-value, verdict-read (now (a .s)) (e1 .0) (e2 .0) (a .network) (e1 .2) f (c .verdict .ensures))
+    let f = first-found (now (a .s)) (a .c .at) (e .1) (e .2) 3 (c .before .before .first .given .0 .0) (sym (c .before .before .before .before .read-first .ensures) ∙ ap firstAnswer (c .before .before .first .given .1)) in
+    rw (e .1, map-value, verdict-read (now (a .s)) (e .0) (a .network) (e .2) f (c .verdict .ensures))
 
 returns-2 : tie.Need-returns-2
 returns-2 c =
-    let e1 = map-got headOf (sym (c .before .before .before .before .before .before .before .read-head .ensures) ∙ ap headAnswer (c .before .before .before .before .before .h .given .1)) in
-    let e2 = map-refused (firstOf 3) (sym (c .before .before .before .read-first .ensures) ∙ ap firstAnswer (c .before .m .given .1)) in
+    let e = map-got peerSpecOf (sym (c .before .before .before .before .before .before .before .parse-peer-entry .ensures) ∙ ap entryAnswer (c .before .before .before .before .before .peer .given .1)) in
     let a = c .before .before .before .before .before .before .before .before .before .args in
-    rw (entry-parts (now (a .s)) (a .c .at), e1 .1, e2, map-refusal)
+    first-there (now (a .s)) (a .c .at) (e .1) (e .2) 3 (sym (c .before .before .before .read-first .ensures) ∙ ap firstAnswer (c .before .m .given .1))
 
 returns-3 : tie.Need-returns-3
 returns-3 c =
-    let e1 = map-refused headOf (sym (c .before .before .before .read-head .ensures) ∙ ap headAnswer (c .before .m2 .given .1)) in
-    let a = c .before .before .before .before .before .args in
-    rw (entry-parts (now (a .s)) (a .c .at), e1, map-refusal)
+    let e = map-refused peerSpecOf (sym (c .before .before .before .parse-peer-entry .ensures) ∙ ap entryAnswer (c .before .m2 .given .1)) in
+    rw (e, map-refusal)
 
 pub validate-entry-spec : {M : Type 1} → statement M
 validate-entry-spec =
