@@ -3,6 +3,6 @@ use Prim.Native.Nat.{ℕ, _+_}
 use mathlib.Core.Bool.{cond}
 use lib.Dec.{leb}
 
--- after v bytes from a place on in an output of len bytes; without room for them, a place from which nothing fits, outside if the first is
+-- after v bytes from a place on in an output of len bytes; without room for them, its end, or the place itself if it is outside
 unfoldable pub behind : ℕ → ℕ → ℕ → ℕ
 behind len at v = cond (leb (at + v) len) (at + v) (cond (leb at len) len at)

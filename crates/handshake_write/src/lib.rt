@@ -40,7 +40,8 @@ pub fn write_handshake(
     answer
 }
 
-// The place after v bytes from a place on; without room for them, a place in the output, if that is one, from which no byte fits.
+// The place after v bytes from a place on. Without room for them, one from which no byte fits: the end of the output, or the place itself if it
+// is outside.
 fn place_behind(len: usize, at: usize, v: usize) -> usize
     ensures { λ r. ⌜ r ≡ behind len at v ⌝ }
 {
