@@ -1,6 +1,6 @@
 -- Laws of `put`: one write after another is one write; where there is room, the bytes stand in the output and every other byte is as it was.
 -- Then those of `written` and `outputAfter`: when a writer accepts, and what its caller knows then.
-use Prim.Native.Nat.{ℕ, suc, _+_, _-_, _≤_, _<_}
+use Prim.Native.Nat.{ℕ, suc, _+_, _≤_, _<_}
 use native.Mathlib.Nat.{add-zero}
 use native.Mathlib.Numerals.{add-one}
 use native.Mathlib.Omega.{arith}
