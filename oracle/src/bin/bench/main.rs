@@ -8,6 +8,7 @@ mod values;
 mod writings;
 
 use rows::Row;
+use std::hint::black_box;
 use std::os::unix::process::CommandExt;
 use std::process::{Command, ExitCode};
 use std::{env, iter};
@@ -53,15 +54,24 @@ fn again() -> ExitCode {
     ExitCode::FAILURE
 }
 
-/// Of each row its samples.
+/// Of each row its samples, each at another place of the stack: at some places a row is slower by a tenth.
 fn samples(rows: &mut [Row]) -> Vec<Vec<Vec<f64>>> {
     let mut samples = vec![vec![]; rows.len()];
-    for _ in 0..SAMPLES {
+    for turn in 0..SAMPLES {
         for (row, samples) in iter::zip(rows.iter_mut(), &mut samples) {
-            samples.push(clock::sample(row));
+            samples.push(deeper(turn, &mut || clock::sample(row)));
         }
     }
     samples
+}
+
+/// Runs so many frames further down the stack.
+#[inline(never)]
+fn deeper(frames: usize, run: &mut dyn FnMut() -> Vec<f64>) -> Vec<f64> {
+    let frame = black_box([0u8; 272]);
+    let times = if frames == 0 { run() } else { deeper(frames - 1, run) };
+    black_box(frame);
+    times
 }
 
 /// Prints our time per MiB of the sessions of several lengths: what failed.
