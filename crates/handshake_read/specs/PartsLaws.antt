@@ -126,7 +126,7 @@ pub feature-stands : (s : List ℕ) (at : ℕ) {f : EntryFeature} {next : ℕ} �
 unfolding feature
 feature-stands s at q = id-stands at (bind-got (byte s at) (lengthThen s) q)
 
--- ---- the features that were read
+-- ---- the features that were read: from the place of the first, they are read again
 
 features-read : (s : List ℕ) (at : ℕ) {l : EntryFeatures} {e : ℕ} → features s at ≡ got l e
     → listOf (length (l .features)) (λ before. feature) s (l .first) ≡ got (l .features) e

@@ -85,7 +85,7 @@ pub fn rest_api_url(s: &[u8], c: Cursor) -> UrlRead
     }
 }
 
-// The first of some features with an id.
+// The first of some features with an id. Those of an entry that was read are all there, so that it is not refused.
 fn read_first(s: &[u8], features: Features, id: u8) -> FirstRead
     ensures { λ r. ⌜ firstAnswer r ≡ mapAnswer (firstIn id) (listOf (features .count) (λ before. feature) (now (s .entry)) (features .start)) ⌝ }
 {

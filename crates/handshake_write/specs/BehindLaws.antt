@@ -21,30 +21,30 @@ behind-room : (len at v : ℕ) → at + v ≤ len → behind len at v ≡ at + v
 unfolding behind
 behind-room len at v h = rw (le-leb (at + v) len h)
 
+end-inside : (len at : ℕ) (t : Bool) → leb at len ≡ t → leb (cond t len at) len ≡ t
+end-inside len at true e = le-leb len len (omega arith)
+end-inside len at false e = e
+
+end-late : (len at : ℕ) (t : Bool) → leb at len ≡ t → len ≤ cond t len at
+end-late len at true e = omega arith
+end-late len at false e = omega (arith, leb-false at len e)
+
 -- without room it is in the output where the first is, and at its end or further
 module _ (len at v : ℕ) (h : len < at + v) where
-  end-inside : (t : Bool) → leb at len ≡ t → leb (cond t len at) len ≡ t
-  end-inside true e = le-leb len len (omega arith)
-  end-inside false e = e
-
-  end-late : (t : Bool) → leb at len ≡ t → len ≤ cond t len at
-  end-late true e = omega arith
-  end-late false e = omega (arith, leb-false at len e)
-
   behind-inside : leb (behind len at v) len ≡ leb at len
   unfolding behind
-  behind-inside = rw (lt-leb (at + v) len h) (end-inside (leb at len) refl)
+  behind-inside = rw (lt-leb (at + v) len h) (end-inside len at (leb at len) refl)
 
   behind-late : len ≤ behind len at v
   unfolding behind
-  behind-late = rw (lt-leb (at + v) len h) (end-late (leb at len) refl)
+  behind-late = rw (lt-leb (at + v) len h) (end-late len at (leb at len) refl)
 
 -- ---- bytes a before bytes b that stand behind them, in an output from a place on
 
 module _ (before after : List Question) (out : List ℕ) (at m : ℕ) (a b : List ℕ) (p : m ≡ behind (length out) at (length a)) (some : 1 ≤ length b) where
-  roomy : at + length a ≤ length out → written before after out m b ≡ written before after out at (a ++ b)
+  with-room : at + length a ≤ length out → written before after out m b ≡ written before after out at (a ++ b)
   unfolding written
-  roomy h =
+  with-room h =
       let q : m ≡ at + length a = p ∙ behind-room (length out) at (length a) h in
       let end : m + length b ≡ at + length (a ++ b) = omega (arith, q, length-append a b) in
       rw (end, le-leb m (length out) (omega (arith, q, h)), le-leb at (length out) (omega (arith, h)))
@@ -53,8 +53,8 @@ module _ (before after : List Question) (out : List ℕ) (at m : ℕ) (a b : Lis
       → written before after out i bs ≡ asked before (cond (leb i (length out)) (asked after (Refused 14)) (Refused 12))
   no-room i bs h = in-order before after out i bs ∙ rw (lt-leb (i + length bs) (length out) h)
 
-  full : length out < at + length a → written before after out m b ≡ written before after out at (a ++ b)
-  full h =
+  without-room : length out < at + length a → written before after out m b ≡ written before after out at (a ++ b)
+  without-room h =
       let inside : leb m (length out) ≡ leb at (length out) = ap (λ (i : ℕ). leb i (length out)) p ∙ behind-inside (length out) at (length a) h in
       no-room m b (omega (arith, p, some, behind-late (length out) at (length a) h))
       ∙ rw inside (sym (no-room at (a ++ b) (omega (arith, h, length-append a b))))
@@ -63,8 +63,8 @@ module _ (before after : List Question) (out : List ℕ) (at m : ℕ) (a b : Lis
   written-behind = go (leb (at + length a) (length out)) refl
     where
       go : (t : Bool) → leb (at + length a) (length out) ≡ t → written before after out m b ≡ written before after out at (a ++ b)
-      go true e = roomy (leb-true (at + length a) (length out) e)
-      go false e = full (leb-false (at + length a) (length out) e)
+      go true e = with-room (leb-true (at + length a) (length out) e)
+      go false e = without-room (leb-false (at + length a) (length out) e)
 
   stands-behind : m + length b ≤ length out → m ≡ at + length a
   stands-behind h = go (leb (at + length a) (length out)) refl

@@ -1,15 +1,14 @@
 -- The contract of each writer, as the code states it, says that a call of it is a write (walk/specs/Calls.antt): `Post` is the contract of a function,
--- of what it was given, what it returned and what it left. With `CallsAreWrites` (walk/specs/Theorems.antt), calls one after the other leave what
+-- of the lifetimes κs, what it was given, what it returned and what it left. With `CallsAreWrites` (walk/specs/Theorems.antt), calls one after the other leave what
 -- `writeAll` says.
 use Prim.Native.Nat.{ℕ}
-use native.Mathlib.Omega.{arith}
 use mathlib.Core.Path.{_≡_}
 use denote.Ref.{now}
 use contract.Lifetimes.{Lfts}
 use Rattle.types.specs.declared.Network.{Network}
-use Rattle.handshake.specs.Tables.{lent}
+use Rattle.handshake.specs.Tables.{Lent, lent}
 use Rattle.handshake_build.specs.Parts.{configOf}
-use Rattle.messages.specs.Writes.{writeGetPeers, writePeers, writeModifierRequest, writeModifierResponse, writeInv, writeSyncInfo, writeUnknown}
+use Rattle.messages.specs.Writes.{MessageWrite, writeGetPeers, writePeers, writeModifierRequest, writeModifierResponse, writeInv, writeSyncInfo, writeUnknown}
 use Rattle.walk.specs.WrittenSession.{writeHandshake, writeBuilt, writeMessage}
 use Rattle.walk.specs.Calls.{Called}
 use Rattle.walk.specs.CallsLaws.{called-handshake, called-built, called-peers, called-message}
@@ -22,6 +21,19 @@ use Rattle.response_write.proofs.write_modifier_response.Reads as write_modifie
 use Rattle.inventory_write.proofs.write_inv.Reads as write_inv
 use Rattle.messages_write.proofs.write_sync_info.Reads as write_sync_info
 use Rattle.messages_write.proofs.write_unknown.Reads as write_unknown
+
+-- every message but Peers, of which alone the cap is asked
+abbrev Other : MessageWrite → Type 0
+Other (writePeers l) = ⊥
+Other writeGetPeers = Unit {0}
+Other (writeModifierRequest kind ids buffer) = Unit {0}
+Other (writeModifierResponse kind payloads buffer) = Unit {0}
+Other (writeInv kind ids buffer) = Unit {0}
+Other (writeSyncInfo body) = Unit {0}
+Other (writeUnknown code body) = Unit {0}
+
+other-message : (w : MessageWrite) → Other w → (l : Lent) → w ≡ writePeers l → ⊥
+other-message w o l e = rw e at o
 
 module _ (network : Network) (cap : ℕ) where
   pub handshake-called : (κs : Lfts 4) (out : _) (at timestamp : ℕ) (entries features buffer : _) (k : ℕ) (r left : _)
@@ -43,34 +55,34 @@ module _ (network : Network) (cap : ℕ) where
       → write_get_peers.Post κs (out, (at, (network, tt))) r left
       → Called network cap (writeMessage writeGetPeers) (now out) at r (now (left .0))
   get-peers-called κs out at r left c =
-      called-message network cap _ (λ l e. let z : _≡_ {A = ℕ} 0 1 = cc in absurd (omega arith)) (c .0) (c .1)
+      called-message network cap _ (other-message _ tt) (c .0) (c .1)
 
   pub modifier-request-called : (κs : Lfts 3) (out : _) (at kind : ℕ) (ids buffer : _) (r left : _)
       → write_modifier_request.Post κs (out, (at, (network, (kind, (ids, (buffer, tt)))))) r left
       → Called network cap (writeMessage (writeModifierRequest kind (now ids) (now buffer))) (now out) at r (now (left .0))
   modifier-request-called κs out at kind ids buffer r left c =
-      called-message network cap _ (λ l e. let z : _≡_ {A = ℕ} 0 1 = cc in absurd (omega arith)) (c .0) (c .1)
+      called-message network cap _ (other-message _ tt) (c .0) (c .1)
 
   pub modifier-response-called : (κs : Lfts 3) (out : _) (at kind : ℕ) (payloads buffer : _) (r left : _)
       → write_modifier_response.Post κs (out, (at, (network, (kind, (payloads, (buffer, tt)))))) r left
       → Called network cap (writeMessage (writeModifierResponse kind (now payloads) (now buffer))) (now out) at r (now (left .0))
   modifier-response-called κs out at kind payloads buffer r left c =
-      called-message network cap _ (λ l e. let z : _≡_ {A = ℕ} 0 1 = cc in absurd (omega arith)) (c .0) (c .1)
+      called-message network cap _ (other-message _ tt) (c .0) (c .1)
 
   pub inv-called : (κs : Lfts 3) (out : _) (at kind : ℕ) (ids buffer : _) (r left : _)
       → write_inv.Post κs (out, (at, (network, (kind, (ids, (buffer, tt)))))) r left
       → Called network cap (writeMessage (writeInv kind (now ids) (now buffer))) (now out) at r (now (left .0))
   inv-called κs out at kind ids buffer r left c =
-      called-message network cap _ (λ l e. let z : _≡_ {A = ℕ} 0 1 = cc in absurd (omega arith)) (c .0) (c .1)
+      called-message network cap _ (other-message _ tt) (c .0) (c .1)
 
   pub sync-info-called : (κs : Lfts 2) (out : _) (at : ℕ) (body : _) (r left : _)
       → write_sync_info.Post κs (out, (at, (network, (body, tt)))) r left
       → Called network cap (writeMessage (writeSyncInfo (now body))) (now out) at r (now (left .0))
   sync-info-called κs out at body r left c =
-      called-message network cap _ (λ l e. let z : _≡_ {A = ℕ} 0 1 = cc in absurd (omega arith)) (c .0) (c .1)
+      called-message network cap _ (other-message _ tt) (c .0) (c .1)
 
   pub unknown-called : (κs : Lfts 2) (out : _) (at code : ℕ) (body : _) (r left : _)
       → write_unknown.Post κs (out, (at, (network, (code, (body, tt))))) r left
       → Called network cap (writeMessage (writeUnknown code (now body))) (now out) at r (now (left .0))
   unknown-called κs out at code body r left c =
-      called-message network cap _ (λ l e. let z : _≡_ {A = ℕ} 0 1 = cc in absurd (omega arith)) (c .0) (c .1)
+      called-message network cap _ (other-message _ tt) (c .0) (c .1)
