@@ -18,10 +18,6 @@ unfoldable pub someContains : ℕ → List Range → ℕ → Bool
 someContains width [] a = false
 someContains width (row ∷ rows) a = contains width row a || someContains width rows a
 
-abbrev pub isMainnet : Network → Bool
-isMainnet Mainnet = true
-isMainnet Testnet = false
-
 -- the rows that count on a network, of those for every network and those for mainnet
 abbrev pub rowsOn : Network → List Range → List Range → List Range
 rowsOn Mainnet always mainnet = always ++ mainnet
@@ -32,3 +28,9 @@ unfoldable pub bogus : Address → Network → Bool
 bogus None network = false
 bogus (V4 ip port) network = someContains 32 (rowsOn network alwaysV4 mainnetV4) ip
 bogus (V6 high low port) network = someContains 128 (rowsOn network alwaysV6 mainnetV6) (high * 2 ^ 64 + low)
+
+-- ---- Only for laws, proofs and private functions: no public contract and no theorem cites what follows.
+
+abbrev pub isMainnet : Network → Bool
+isMainnet Mainnet = true
+isMainnet Testnet = false

@@ -1,4 +1,5 @@
 -- Parts of the RFC's functions G and F, each computed by a function of the code.
+-- Only for laws, proofs and private functions: no public contract and no theorem cites what follows.
 use mathlib.Core.Bool.{Bool}
 use mathlib.Core.List.{List, [], _∷_, _++_}
 use Prim.Native.Nat.{ℕ, _+_, _%_, _^_}

@@ -42,6 +42,8 @@ finished nn x rest =
     let i : ℕ = dd (length rest) - 1 in
     take nn (unwords (ended (absorbed x rest i) rest i))
 
+-- ---- Only for laws, proofs and private functions: no public contract and no theorem cites what follows.
+
 -- a whole run: start, a step for each of the first k blocks of s, and finish with the rest
 unfoldable pub run : ℕ → List ℕ → ℕ → List ℕ
 run nn s k = finished nn (for k (λ i x. stepped x (take bb (drop (i * bb) s))) (started nn)) (drop (k * bb) s)

@@ -12,6 +12,8 @@ abbrev pub headerAnswer : HeaderRead → Answer Header
 headerAnswer (HeaderReads.Value h p) = got (record { type = h .kind; count = h .count }) (p .0)
 headerAnswer (HeaderReads.Refused m) = refused m
 
+-- ---- Only for laws, proofs and private functions: no public contract and no theorem cites what follows.
+
 -- `header` from the answers of the byte and of the VLQ after it
 abbrev pub headerOf : Answer ℕ → Answer ℕ → Answer Header
 headerOf kind count =

@@ -26,6 +26,8 @@ entriesSaid l =
 unfoldable pub entrySaid : Lent → ℕ → Written
 entrySaid l k = asked (ask 16 (tablesWhole l) ∷ rowAsked l k) (To (length (entryBytes (entryAt l k))))
 
+-- ---- Only for laws, proofs and private functions: no public contract and no theorem cites what follows.
+
 -- the questions after 16 of some rows, each over all of them
 abbrev pub questionsOf : List ℕ → List ℕ → List EntryRow → List Question
 questionsOf features buffer rs =

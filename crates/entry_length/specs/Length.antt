@@ -17,6 +17,8 @@ use Rattle.entry_questions.specs.Questions.{rowYes}
 unfoldable pub rowLength : List ℕ → List ℕ → EntryRow → ℕ
 rowLength features buffer r = cond (rowYes features buffer r) (length (entryBytes (entryOf (lent [] features buffer) r))) 0
 
+-- ---- Only for laws, proofs and private functions: no public contract and no theorem cites what follows.
+
 -- 12 of the row's own parts, 13 and 15, with so many feature rows and a buffer of len bytes
 unfoldable pub rowFits : ℕ → ℕ → EntryRow → Bool
 rowFits rows len r =

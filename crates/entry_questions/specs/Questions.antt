@@ -12,13 +12,6 @@ use Rattle.handshake.specs.Tables.{lent, featureOf, entryOf, featureInside, ent
 use Rattle.entry_questions.specs.declared.About.{About}
 use Rattle.entry_questions.specs.declared.About.the-variants.{Inside, Short, Utf8, Count, Lengths}
 
-unfoldable pub featureHolds : About → List ℕ → FeatureRow → Bool
-featureHolds Inside buffer f = featureInside buffer f
-featureHolds Short buffer f = true
-featureHolds Utf8 buffer f = true
-featureHolds Count buffer f = true
-featureHolds Lengths buffer f = leb (length (featureOf buffer f .body)) limit
-
 unfoldable pub rowHolds : About → List ℕ → List ℕ → EntryRow → Bool
 rowHolds Inside features buffer r = entryInside (lent [] features buffer) r
 rowHolds Short features buffer r = shortStrings (entryOf (lent [] features buffer) r)
@@ -34,3 +27,12 @@ rowYes features buffer r =
     && (rowHolds Utf8 features buffer r
     && (rowHolds Count features buffer r
     && rowHolds Lengths features buffer r)))
+
+-- ---- Only for laws, proofs and private functions: no public contract and no theorem cites what follows.
+
+unfoldable pub featureHolds : About → List ℕ → FeatureRow → Bool
+featureHolds Inside buffer f = featureInside buffer f
+featureHolds Short buffer f = true
+featureHolds Utf8 buffer f = true
+featureHolds Count buffer f = true
+featureHolds Lengths buffer f = leb (length (featureOf buffer f .body)) limit

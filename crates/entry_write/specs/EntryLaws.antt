@@ -5,8 +5,7 @@ use mathlib.Core.Path.{_≡_, ap, _∙_}
 use lib.ListN.{length}
 use Rattle.wire.specs.declared.Written.{Written}
 use Rattle.wire.specs.declared.Written.the-variants.{To, Refused}
-use Rattle.wire.specs.Output.{ask, outputAfter}
-use Rattle.wire.specs.OutputLaws.{Wrote}
+use Rattle.wire.specs.Output.{ask, outputAfter, Wrote}
 use Rattle.output_ask.specs.Asked.{writtenFor, placed}
 use Rattle.output_ask.specs.CheckedLaws.{accepted, stored, kept}
 use Rattle.handshake.specs.Value.{entryBytes}

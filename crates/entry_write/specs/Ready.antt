@@ -1,4 +1,5 @@
 -- What is known of a row, and of a whole table, once every question about it was answered "yes": it can be stored.
+-- Only for laws, proofs and private functions: no public contract and no theorem cites what follows.
 use Prim.Native.Nat.{_≤_}
 use mathlib.Core.Bool.{true}
 use mathlib.Core.Path.{_≡_}

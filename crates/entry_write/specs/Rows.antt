@@ -23,6 +23,8 @@ rowsAsked l before =
 unfoldable pub rowsWritten : Lent → ℕ → List ℕ → ℕ → Written
 rowsWritten l before out at = written (ask 16 (tablesWhole l) ∷ []) (rowsAsked l before) out at (flatMap entryBytes (entriesOf l))
 
+-- ---- Only for laws, proofs and private functions: no public contract and no theorem cites what follows.
+
 -- with the question of the body, once it is known what is said of the entries: To has how many bytes they are written as
 unfoldable pub bodySaid : ℕ → Written → Written
 bodySaid before (To n) = cond (leb (before + n) limit) (To n) (Refused 7)

@@ -12,8 +12,7 @@ use Rattle.wire.specs.Bytes.{every}
 use Rattle.wire.specs.Numbers.{lt-or-ge}
 use Rattle.wire.specs.declared.Written.{Written}
 use Rattle.wire.specs.declared.Written.the-variants.{To, Refused}
-use Rattle.wire.specs.Output.{ask, asked, outputAfter}
-use Rattle.wire.specs.OutputLaws.{Wrote}
+use Rattle.wire.specs.Output.{ask, asked, outputAfter, Wrote}
 use Rattle.vlq.specs.Vlq.{limit}
 use Rattle.output_ask.specs.Asked.{writtenFor, placed}
 use Rattle.output_ask.specs.CheckedLaws.{accepted, stored, kept}

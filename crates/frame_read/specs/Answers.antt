@@ -19,10 +19,12 @@ frameOf f = record { code = f .code; body = streamPartOf (f .body) }
 
 -- ---- what an answer means
 
-abbrev pub bodyAnswer : BodyRead → Answer StreamPart
-bodyAnswer (BodyReads.Value b end) = got b (end .0)
-bodyAnswer (BodyReads.Refused m) = refused m
-
 abbrev pub frameAnswer : FrameRead → Answer Frame
 frameAnswer (FrameReads.Value f end) = got f (end .0)
 frameAnswer (FrameReads.Refused m) = refused m
+
+-- ---- Only for laws, proofs and private functions: no public contract and no theorem cites what follows.
+
+abbrev pub bodyAnswer : BodyRead → Answer StreamPart
+bodyAnswer (BodyReads.Value b end) = got b (end .0)
+bodyAnswer (BodyReads.Refused m) = refused m

@@ -5,8 +5,8 @@ use mathlib.Core.List.{List, [], _∷_}
 use mathlib.Core.Path.{_≡_, refl}
 use lib.ListN.{length, getD, set}
 use Rattle.wire.specs.Bytes.{bigEndianBytes}
-use Rattle.wire.specs.Output.{put}
-use Rattle.wire.specs.OutputLaws.{Wrote, wrote-byte, wrote-then}
+use Rattle.wire.specs.Output.{put, Wrote}
+use Rattle.wire.specs.OutputLaws.{wrote-byte, wrote-then}
 use Rattle.types.specs.declared.Network.{Network}
 use Rattle.types.specs.Magic.{magicOf}
 use Rattle.frame_write.specs.FrameWriteLaws.{headBytes}

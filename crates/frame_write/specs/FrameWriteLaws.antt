@@ -9,8 +9,8 @@ use Rattle.wire.specs.Bytes.{bigEndianBytes}
 use Rattle.wire.specs.BytesLaws.{length-bigEndianBytes}
 use Rattle.wire.specs.declared.Written.{Written}
 use Rattle.wire.specs.declared.Written.the-variants.{To}
-use Rattle.wire.specs.Output.{put, asked, written, outputAfter}
-use Rattle.wire.specs.OutputLaws.{Wrote, put-here, wrote-then, wrote-length, wrote-checked, asked-to}
+use Rattle.wire.specs.Output.{put, asked, written, outputAfter, Wrote}
+use Rattle.wire.specs.OutputLaws.{put-here, wrote-then, wrote-length, wrote-checked, asked-to}
 use Rattle.wire.specs.StandingLaws.{put-standing, put-over, after-none}
 use Rattle.wire.specs.ReaderLaws.{length-part}
 use Rattle.vlq.specs.Vlq.{limit}

@@ -8,7 +8,8 @@ use mathlib.Core.List.{List, map, flatMap}
 use mathlib.Core.Path.{_≡_}
 use lib.ListN.{length}
 use Rattle.wire.specs.Bytes.{every}
-use Rattle.wire.specs.OutputLaws.{Wrote, Writing, writing-start, writing-turn, writing-end, writing-room}
+use Rattle.wire.specs.Output.{Wrote}
+use Rattle.wire.specs.OutputLaws.{Writing, writing-start, writing-turn, writing-end, writing-room}
 use Rattle.handshake.specs.Tables.{rows}
 use Rattle.handshake.specs.RowsLaws.{every-here, every-rest, bytes-next, bytes-none}
 

@@ -1,4 +1,4 @@
--- The parts that `build` is put together from.
+-- What `build` is given, and the parts that it is put together from.
 use Prim.Native.Nat.{ℕ, _≤_}
 use mathlib.Core.Bool.{true}
 use mathlib.Core.List.{List, [], _∷_, _++_}
@@ -16,10 +16,6 @@ use Rattle.handshake.specs.Writes as writes
 use Rattle.feature_write.specs.Features.{modeFeatureOf, sessionFeatureOf}
 use Rattle.handshake_build.specs.declared.Config.{Config}
 
-unfoldable pub endOf : Written → ℕ
-endOf (To e) = e
-endOf (Refused m) = 0
-
 -- what `build` is given, as its definition has it
 abbrev pub configOf : Config → List ℕ → List ℕ → writes.Config
 configOf c agent name =
@@ -36,6 +32,12 @@ configOf c agent name =
       timestamp = c .timestamp;
       sessionId = c .session;
     }
+
+-- ---- Only for laws, proofs and private functions: no public contract and no theorem cites what follows.
+
+unfoldable pub endOf : Written → ℕ
+endOf (To e) = e
+endOf (Refused m) = 0
 
 -- what `build` says of an output of len bytes
 unfoldable pub builtSaid : ℕ → ℕ → writes.Config → Written

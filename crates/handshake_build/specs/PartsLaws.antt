@@ -11,8 +11,8 @@ use lib.ListN.{length, length-append}
 use borrow.Author.Tests.{le-leb, leb-true}
 use Rattle.wire.specs.Bytes.{every}
 use Rattle.wire.specs.BytesLaws.{and-true}
-use Rattle.wire.specs.Output.{Question, asked, written, outputAfter}
-use Rattle.wire.specs.OutputLaws.{Wrote, AllHold, written-to, wrote-checked}
+use Rattle.wire.specs.Output.{Question, asked, written, outputAfter, Wrote}
+use Rattle.wire.specs.OutputLaws.{AllHold, written-to, wrote-checked}
 use Rattle.wire.specs.declared.Written.{Written}
 use Rattle.wire.specs.declared.Written.the-variants.{To}
 use Rattle.utf8.specs.Utf8.{utf8}

@@ -3,8 +3,7 @@
 ghost use mathlib.Core.Path.{_≡_};
 ghost use Prim.Native.Nat.{_+_, _≤_};
 ghost use lib.ListN.{length};
-ghost use Rattle.wire.specs.Output.{put, outputAfter};
-ghost use Rattle.wire.specs.OutputLaws.{Wrote};
+ghost use Rattle.wire.specs.Output.{put, outputAfter, Wrote};
 ghost use Rattle.vlq.specs.Vlq.{vlqBytes};
 ghost use Rattle.handshake.specs.Value.{addressBytes, versionBytes, handshakeBytes};
 ghost use Rattle.handshake.specs.Writes.{built, builtWritten};

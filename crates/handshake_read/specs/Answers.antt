@@ -30,18 +30,8 @@ use Rattle.handshake_read.specs.declared.SizeRead.the-variants as SizeRe
 
 -- ---- what is given of a reading
 
-abbrev pub headOf : EntryHead → Head
-headOf h = record { agent = partOf (h .agent); version = h .version; name = partOf (h .name); address = h .address }
-
-abbrev pub featuresOf : EntryFeatures → Features
-featuresOf l = record { count = length (l .features); start = l .first }
-
 abbrev pub featureOf : EntryFeature → Feature
 featureOf f = record { id = f .id; body = partOf (f .body) }
-
--- of features, nothing but where they end
-abbrev pub ended : List EntryFeature → Unit {0}
-ended l = tt
 
 abbrev pub peerSpecOf : Entry → PeerSpec
 peerSpecOf e =
@@ -58,25 +48,9 @@ handshakeOf h = record { timestamp = h .timestamp; peer = peerSpecOf (h .entry) 
 
 -- ---- what an answer means
 
-abbrev pub versionAnswer : VersionRead → Answer Version
-versionAnswer (VersionReads.Value v c) = got v (c .at)
-versionAnswer (VersionReads.Refused m) = refused m
-
-abbrev pub headAnswer : HeadRead → Answer Head
-headAnswer (HeadReads.Value h c) = got h (c .at)
-headAnswer (HeadReads.Refused m) = refused m
-
 abbrev pub featureAnswer : FeatureRead → Answer Feature
 featureAnswer (FeatureReads.Value f c) = got f (c .at)
 featureAnswer (FeatureReads.Refused m) = refused m
-
-abbrev pub endAnswer : EndRead → Answer (Unit {0})
-endAnswer (EndReads.Value c) = got tt (c .at)
-endAnswer (EndReads.Refused m) = refused m
-
-abbrev pub featuresAnswer : FeaturesRead → Answer Features
-featuresAnswer (FeaturesReads.Value l c) = got l (c .at)
-featuresAnswer (FeaturesReads.Refused m) = refused m
 
 abbrev pub entryAnswer : EntryRead → Answer PeerSpec
 entryAnswer (EntryReads.Value e c) = got e (c .at)
@@ -90,3 +64,31 @@ handshakeAnswer (HandshakeReads.Refused m) = refused m
 abbrev pub sizeAnswer : SizeRead → Answer ℕ
 sizeAnswer (SizeReads.Size n) = got n n
 sizeAnswer (SizeReads.Refused m) = refused m
+
+-- ---- Only for laws, proofs and private functions: no public contract and no theorem cites what follows.
+
+abbrev pub headOf : EntryHead → Head
+headOf h = record { agent = partOf (h .agent); version = h .version; name = partOf (h .name); address = h .address }
+
+abbrev pub featuresOf : EntryFeatures → Features
+featuresOf l = record { count = length (l .features); start = l .first }
+
+-- of features, nothing but where they end
+abbrev pub ended : List EntryFeature → Unit {0}
+ended l = tt
+
+abbrev pub versionAnswer : VersionRead → Answer Version
+versionAnswer (VersionReads.Value v c) = got v (c .at)
+versionAnswer (VersionReads.Refused m) = refused m
+
+abbrev pub headAnswer : HeadRead → Answer Head
+headAnswer (HeadReads.Value h c) = got h (c .at)
+headAnswer (HeadReads.Refused m) = refused m
+
+abbrev pub endAnswer : EndRead → Answer (Unit {0})
+endAnswer (EndReads.Value c) = got tt (c .at)
+endAnswer (EndReads.Refused m) = refused m
+
+abbrev pub featuresAnswer : FeaturesRead → Answer Features
+featuresAnswer (FeaturesReads.Value l c) = got l (c .at)
+featuresAnswer (FeaturesReads.Refused m) = refused m

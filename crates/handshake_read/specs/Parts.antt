@@ -1,4 +1,4 @@
--- An entry in the two parts that the code reads one after the other, and a feature by index. That the two parts are an entry is shown in `PartsLaws`.
+-- A feature by index; and an entry in the two parts that the code reads one after the other. That the two parts are an entry is shown in `PartsLaws`.
 use Prim.Native.Nat.{ℕ, zero, suc, _+_}
 use mathlib.Core.List.{List, [], _∷_}
 use lib.ListN.{length}
@@ -8,6 +8,19 @@ use Rattle.types.specs.declared.Version.{Version}
 use Rattle.types.specs.declared.Address.{Address}
 use Rattle.handshake.specs.Entry.{version, EntryFeature, feature, entry}
 use Rattle.address_read.specs.DeclaredAddress.{declaredAddress}
+
+-- the feature with this index, and the place where its body ends
+-- Is the index inside? 12
+unfoldable pub nth : ℕ → List EntryFeature → Answer EntryFeature
+nth index [] = refused 12
+nth zero (f ∷ fs) = got f (f .body .start + length (f .body .bytes))
+nth (suc index) (f ∷ fs) = nth index fs
+
+-- a feature of the entry at a place, once the entry has been read without refusal
+unfoldable pub featureAt : ℕ → Reader EntryFeature
+featureAt index s at = bind (entry s at) (λ e next. nth index (e .features))
+
+-- ---- Only for laws, proofs and private functions: no public contract and no theorem cites what follows.
 
 pub record EntryHead : Type 0 where
   pub agent : Segment
@@ -35,14 +48,3 @@ features =
     andThen place (λ first.
     andThen (listOf count (λ before. feature)) (λ features.
     pure (record { first = first; features = features }))))
-
--- the feature with this index, and the place where its body ends
--- Is the index inside? 12
-unfoldable pub nth : ℕ → List EntryFeature → Answer EntryFeature
-nth index [] = refused 12
-nth zero (f ∷ fs) = got f (f .body .start + length (f .body .bytes))
-nth (suc index) (f ∷ fs) = nth index fs
-
--- a feature of the entry at a place, once the entry has been read without refusal
-unfoldable pub featureAt : ℕ → Reader EntryFeature
-featureAt index s at = bind (entry s at) (λ e next. nth index (e .features))

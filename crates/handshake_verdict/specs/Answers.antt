@@ -27,17 +27,9 @@ use Rattle.handshake_verdict.specs.declared.UrlRead.the-variants as UrlR
 
 -- ---- what is given of a reading
 
-abbrev pub featureIfAny : Option EntryFeature → Option Feature
-featureIfAny none = none
-featureIfAny (some f) = some (featureOf f)
-
 abbrev pub partIfAny : Option Segment → Option Part
 partIfAny none = none
 partIfAny (some g) = some (partOf g)
-
--- of features, the first with an id
-abbrev pub firstIn : ℕ → List EntryFeature → Option Feature
-firstIn id l = featureIfAny (firstFeature id l)
 
 abbrev pub handshakeVerdict : Network → EntryHandshake → ℕ
 handshakeVerdict network h = validatePeer network (h .entry)
@@ -45,11 +37,33 @@ handshakeVerdict network h = validatePeer network (h .entry)
 abbrev pub entryUrl : Entry → Option Part
 entryUrl e = partIfAny (restApiUrl e)
 
+-- ---- what an answer means
+
+abbrev pub verdictAnswer : VerdictRead → Answer ℕ
+verdictAnswer (VerdictReads.Value v c) = got v (c .at)
+verdictAnswer (VerdictReads.Refused m) = refused m
+
+abbrev pub url : Url → Option Part
+url (Urls.At p) = some p
+url Urls.None = none
+
+abbrev pub urlAnswer : UrlRead → Answer (Option Part)
+urlAnswer (UrlReads.Value u c) = got (url u) (c .at)
+urlAnswer (UrlReads.Refused m) = refused m
+
+-- ---- Only for laws, proofs and private functions: no public contract and no theorem cites what follows.
+
+abbrev pub featureIfAny : Option EntryFeature → Option Feature
+featureIfAny none = none
+featureIfAny (some f) = some (featureOf f)
+
+-- of features, the first with an id
+abbrev pub firstIn : ℕ → List EntryFeature → Option Feature
+firstIn id l = featureIfAny (firstFeature id l)
+
 -- `validatePeer` from the version and the first feature 3
 unfoldable pub verdictOf : Network → Version → Option EntryFeature → ℕ
 verdictOf network v first = cond (below v eip37Min) 1 (cond (otherMagic network first) 2 0)
-
--- ---- what an answer means
 
 abbrev pub found : Found → Option Feature
 found (Founds.At f) = some f
@@ -64,21 +78,7 @@ abbrev pub firstAnswer : FirstRead → Answer (Option Feature)
 firstAnswer (FirstReads.Value f c) = got (found f) (c .at)
 firstAnswer (FirstReads.Refused m) = refused m
 
-abbrev pub verdictAnswer : VerdictRead → Answer ℕ
-verdictAnswer (VerdictReads.Value v c) = got v (c .at)
-verdictAnswer (VerdictReads.Refused m) = refused m
-
-abbrev pub url : Url → Option Part
-url (Urls.At p) = some p
-url Urls.None = none
-
-abbrev pub urlAnswer : UrlRead → Answer (Option Part)
-urlAnswer (UrlReads.Value u c) = got (url u) (c .at)
-urlAnswer (UrlReads.Refused m) = refused m
-
--- ---- a feature by its places
-
--- with the bytes of its body in s
+-- a feature by its places, with the bytes of its body in s
 abbrev pub foundIn : List ℕ → Found → Option EntryFeature
 foundIn s (Founds.At f) = some (record { id = f .id; body = record { start = f .body .start; bytes = take (f .body .len) (drop (f .body .start) s) } })
 foundIn s Founds.None = none

@@ -61,14 +61,16 @@ abbrev pub countAnswer : CountRead → Answer ℕ
 countAnswer (CountReads.Value n c) = got n (c .at)
 countAnswer (CountReads.Refused m) = refused m
 
+abbrev pub inventoryAnswer : InventoryRead → Answer Inventory
+inventoryAnswer (InventoryReads.Value i end) = got i (end .0)
+inventoryAnswer (InventoryReads.Refused m) = refused m
+
+-- ---- Only for laws, proofs and private functions: no public contract and no theorem cites what follows.
+
 -- a header ends at the place of the first item
 abbrev pub headerAnswer : HeaderRead → Answer Header
 headerAnswer (HeaderReads.Value i) = got (record { type = i .kind; count = i .count }) (i .start .0)
 headerAnswer (HeaderReads.Refused m) = refused m
-
-abbrev pub inventoryAnswer : InventoryRead → Answer Inventory
-inventoryAnswer (InventoryReads.Value i end) = got i (end .0)
-inventoryAnswer (InventoryReads.Refused m) = refused m
 
 abbrev pub sumAnswer : SumRead → Answer ℕ
 sumAnswer (SumReads.Value end total) = got total (end .0)

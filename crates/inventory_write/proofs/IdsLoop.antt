@@ -7,8 +7,8 @@ use lib.Dec.{leb}
 use lib.ListN.{length, getD}
 use borrow.Author.Tests.{leb-true}
 use Rattle.wire.specs.declared.Written.{Written}
-use Rattle.wire.specs.Output.{written, outputAfter}
-use Rattle.wire.specs.OutputLaws.{Wrote, wrote-checked}
+use Rattle.wire.specs.Output.{written, outputAfter, Wrote}
+use Rattle.wire.specs.OutputLaws.{wrote-checked}
 use Rattle.wire.specs.ReaderLaws.{length-part}
 use Rattle.handshake.specs.Tables.{bytesAt}
 use Rattle.handshake.specs.PuttingLaws.{Putting, putting-passed, putting-room, putting-turn}

@@ -11,8 +11,8 @@ use Rattle.wire.specs.Bytes.{every}
 use Rattle.wire.specs.BytesLaws.{and-true}
 use Rattle.wire.specs.declared.Written.{Written}
 use Rattle.wire.specs.declared.Written.the-variants.{To}
-use Rattle.wire.specs.Output.{asked, written, outputAfter}
-use Rattle.wire.specs.OutputLaws.{Wrote, wrote-byte, wrote-then, wrote-checked, asked-to}
+use Rattle.wire.specs.Output.{asked, written, outputAfter, Wrote}
+use Rattle.wire.specs.OutputLaws.{wrote-byte, wrote-then, wrote-checked, asked-to}
 use Rattle.vlq.specs.Vlq.{limit, vlqBytes}
 use Rattle.types.specs.declared.Network.{Network}
 use Rattle.frame_write.specs.Asked.{frameLength}

@@ -38,10 +38,6 @@ messageOf network s (Bodies.inv type l) = Messages.Inv (inventoryOf s type l)
 messageOf network s (Bodies.syncInfo body) = Messages.SyncInfo
 messageOf network s (Bodies.unknown body) = Messages.Unknown
 
--- of entries, nothing but where they end
-abbrev pub ended : List Entry → Unit {0}
-ended l = tt
-
 -- ---- what an answer means
 
 abbrev pub messageAnswer : MessageRead → Answer Message
@@ -55,6 +51,12 @@ peersAnswer (PeersReads.Refused m) = refused m
 abbrev pub peerAnswer : PeerRead → Answer PeerSpec
 peerAnswer (PeerReads.Value p end) = got p (end .0)
 peerAnswer (PeerReads.Refused m) = refused m
+
+-- ---- Only for laws, proofs and private functions: no public contract and no theorem cites what follows.
+
+-- of entries, nothing but where they end
+abbrev pub ended : List Entry → Unit {0}
+ended l = tt
 
 abbrev pub bogusAnswer : BogusRead → Answer ℕ
 bogusAnswer (BogusReads.Value n c) = got n (c .at)

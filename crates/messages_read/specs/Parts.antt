@@ -20,6 +20,8 @@ entriesStart s = endOf (vlqLength s 0)
 unfoldable pub entryAt : ℕ → ℕ → List ℕ → Answer Entry
 entryAt cap index s = bind (entries cap s 0) (λ l next. itemOf (length l) index (λ before. entry) s (entriesStart s))
 
--- the same from the place of the first of n entries on
+-- ---- Only for laws, proofs and private functions: no public contract and no theorem cites what follows.
+
+-- an entry by index, from the place of the first of n entries on
 unfoldable pub entryAmong : ℕ → ℕ → Reader Entry
 entryAmong n index s at = bind (listOf n (λ before. entry) s at) (λ l next. itemOf n index (λ before. entry) s at)

@@ -1,5 +1,6 @@
 -- What the writer of messages of other codes says of an output of len bytes, by sizes: the questions of `messageWritten` that are not answered
 -- "yes" by what the message is.
+-- Only for laws, proofs and private functions: no public contract and no theorem cites what follows.
 use Prim.Native.Nat.{ℕ}
 use mathlib.Core.List.{[], _∷_}
 use lib.Dec.{leb}

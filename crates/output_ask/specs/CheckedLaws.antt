@@ -6,8 +6,8 @@ use mathlib.Core.Path.{_≡_, refl, sym, _∙_}
 use lib.ListN.{length}
 use Rattle.wire.specs.declared.Written.{Written}
 use Rattle.wire.specs.declared.Written.the-variants.{To, Refused}
-use Rattle.wire.specs.Output.{Question, written, outputAfter}
-use Rattle.wire.specs.OutputLaws.{Wrote, AllHold, Accepted, written-to, written-accepted}
+use Rattle.wire.specs.Output.{Question, written, outputAfter, Wrote}
+use Rattle.wire.specs.OutputLaws.{AllHold, Accepted, written-to, written-accepted}
 use Rattle.wire.specs.StandingLaws.{after-to, after-refused}
 use Rattle.output_ask.specs.Asked.{writtenFor}
 

@@ -5,7 +5,7 @@ use mathlib.Core.List.{List}
 use mathlib.Core.Path.{_≡_, _∙_}
 use lib.ListN.{length, take, drop, length-drop}
 use lib.Seq.{take-all}
-use Rattle.wire.specs.OutputLaws.{Wrote}
+use Rattle.wire.specs.Output.{Wrote}
 use Rattle.wire.specs.StandingLaws.{wrote-over}
 
 pub last-block : (w : ℕ) {out : List ℕ} {at m : ℕ} {mid b : List ℕ} {e : ℕ} {last : List ℕ} (s : List ℕ) (i : ℕ) → w ≤ length s → length s ≤ i + w → i ≤ length s

@@ -4,8 +4,7 @@ ghost use mathlib.Core.Path.{_≡_};
 ghost use mathlib.Core.List.{[], _∷_};
 ghost use Prim.Native.Nat.{_+_, _≤_, _<_};
 ghost use lib.ListN.{length, take, drop};
-ghost use Rattle.wire.specs.Output.{written, outputAfter};
-ghost use Rattle.wire.specs.OutputLaws.{Wrote};
+ghost use Rattle.wire.specs.Output.{written, outputAfter, Wrote};
 use output_ask::ask_room;
 use wire::Written;
 

@@ -1,4 +1,5 @@
 -- What the writer of Peers says of an output of len bytes, by sizes, once it is known what is said of the entries.
+-- Only for laws, proofs and private functions: no public contract and no theorem cites what follows.
 use Prim.Native.Nat.{ℕ, _+_}
 use mathlib.Core.Bool.{Bool, _&&_}
 use mathlib.Core.List.{List, [], _∷_}

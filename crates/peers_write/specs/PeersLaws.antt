@@ -13,8 +13,8 @@ use Rattle.wire.specs.BytesLaws.{and-true}
 use Rattle.wire.specs.Numbers.{lt-or-ge}
 use Rattle.wire.specs.declared.Written.{Written}
 use Rattle.wire.specs.declared.Written.the-variants.{To}
-use Rattle.wire.specs.Output.{put, ask, asked, written, outputAfter}
-use Rattle.wire.specs.OutputLaws.{Wrote, Accepted, length-put, wrote-checked, written-accepted}
+use Rattle.wire.specs.Output.{put, ask, asked, written, outputAfter, Wrote}
+use Rattle.wire.specs.OutputLaws.{Accepted, length-put, wrote-checked, written-accepted}
 use Rattle.wire.specs.StandingLaws.{after-put, put-behind}
 use Rattle.vlq.specs.Vlq.{limit, vlqBytes}
 use Rattle.vlq.specs.VlqLaws.{vlq-pos}

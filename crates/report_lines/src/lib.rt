@@ -1,6 +1,6 @@
 // The line of each step of a session (document 01, "At the edges"), stored from the first byte of a lent line on.
 ghost use Prim.Native.Nat.{_≤_};
-ghost use Rattle.wire.specs.OutputLaws.{Wrote};
+ghost use Rattle.wire.specs.Output.{Wrote};
 ghost use Rattle.report_lines.specs.StepLines.{handshakeItemLine, messageItemLine, stopItemLine, lineOf};
 use messages_read::Message;
 use walk_read::HandshakeItem;

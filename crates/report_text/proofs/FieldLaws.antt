@@ -6,8 +6,8 @@ use mathlib.Core.Path.{_≡_, _∙_}
 use lib.ListN.{length, take}
 use Rattle.io.specs.Digits.{digits, Fewest}
 use Rattle.wire.specs.declared.Written.{Written}
-use Rattle.wire.specs.Output.{written, outputAfter}
-use Rattle.wire.specs.OutputLaws.{Wrote, wrote-then, wrote-checked, wrote-length}
+use Rattle.wire.specs.Output.{written, outputAfter, Wrote}
+use Rattle.wire.specs.OutputLaws.{wrote-then, wrote-checked, wrote-length}
 use Rattle.report_text.specs.Lines.{decimal, field}
 use Rattle.report_text.specs.LinesLaws.{fewest-decimal}
 

@@ -2,7 +2,7 @@
 ghost use mathlib.Core.Path.{_≡_};
 ghost use Prim.Native.Nat.{_+_, _≤_};
 ghost use lib.ListN.{length};
-ghost use Rattle.wire.specs.OutputLaws.{Wrote};
+ghost use Rattle.wire.specs.Output.{Wrote};
 ghost use Rattle.report_text.specs.Lines.{lineEnd, versionText, handshakeLine, messageText, messageLine, peersLine, stopHandshake, stopFrame, stopBody, stopLine, endLine};
 ghost use Rattle.report_text.specs.Lines.{field as Lines·field, span as Lines·span};
 

@@ -6,8 +6,8 @@ use mathlib.Core.List.{List, []}
 use mathlib.Core.Path.{_≡_}
 use lib.ListN.{length}
 use Rattle.wire.specs.declared.Written.{Written}
-use Rattle.wire.specs.Output.{written, outputAfter}
-use Rattle.wire.specs.OutputLaws.{Wrote, wrote-checked, wrote-then, wrote-length}
+use Rattle.wire.specs.Output.{written, outputAfter, Wrote}
+use Rattle.wire.specs.OutputLaws.{wrote-checked, wrote-then, wrote-length}
 use Rattle.wire.specs.ReaderLaws.{length-part}
 use Rattle.vlq.specs.Vlq.{vlqBytes}
 use Rattle.handshake.specs.Tables.{bytesAt}

@@ -1,5 +1,6 @@
 -- UTF-8 by RFC 3629, section 3: which numbers are characters, and the octets of one and of a list of them.
 -- No lead byte's row is looked at here.
+-- Only for laws, proofs and private functions: no public contract and no theorem cites what follows.
 use Prim.Native.Nat.{ℕ, _+_, _/_, _%_, _^_, _≤_}
 use mathlib.Core.Bool.{cond}
 use mathlib.Core.List.{List, [], _∷_, _++_}

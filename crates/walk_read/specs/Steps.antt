@@ -54,6 +54,8 @@ stepOf network s cleanEnd = StepReads.End
 stepOf network s (stop layer n at) = StepReads.Stop (record { layer = layerOf layer; number = n; start = streamPlace at })
 stepOf network s outside = StepReads.Outside
 
+-- ---- Only for laws, proofs and private functions: no public contract and no theorem cites what follows.
+
 -- a frame from a place to another, with what its body was read as
 unfoldable pub openedStep : Network → StreamPlace → StreamPlace → Frame → List ℕ → Answer Message → StepRead
 openedStep network start end f body (got m next) =

@@ -1,4 +1,5 @@
 -- Of two numbers the first is below the second, or at or above it.
+-- Only for laws, proofs and private functions: no public contract and no theorem cites what follows.
 use Prim.Native.Nat.{ℕ, _≤_, _<_}
 use native.Mathlib.Decide.{decLt}
 use native.Mathlib.Omega.{arith}

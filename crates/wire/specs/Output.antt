@@ -3,6 +3,7 @@
 use Prim.Native.Nat.{ℕ, _+_}
 use mathlib.Core.Bool.{Bool, cond}
 use mathlib.Core.List.{List, [], _∷_, _++_}
+use mathlib.Core.Path.{_≡_}
 use lib.Dec.{leb}
 use lib.ListN.{length, set}
 use Rattle.wire.specs.declared.Written.{Written}
@@ -37,3 +38,8 @@ written before after out at bs =
 unfoldable pub outputAfter : Written → List ℕ → ℕ → List ℕ → List ℕ
 outputAfter (To end) out at bs = put out at bs
 outputAfter (Refused m) out at bs = out
+
+-- a write of the bytes bs to out from the place at ended at e and left last
+pub record Wrote (out : List ℕ) (at : ℕ) (bs : List ℕ) (e : ℕ) (last : List ℕ) : Type 0 where
+  pub end : e ≡ at + length bs
+  pub bytes : last ≡ put out at bs

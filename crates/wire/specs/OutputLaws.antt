@@ -13,7 +13,7 @@ use lib.ListN.{length, take, drop, set, length-set, length-append}
 use lib.Seq.{sets, sets-eq, take-at, drop-at, length-take-le, take-append-seam}
 use Rattle.wire.specs.declared.Written.{Written}
 use Rattle.wire.specs.declared.Written.the-variants.{To, Refused}
-use Rattle.wire.specs.Output.{put, Question, ask, asked, written, outputAfter}
+use Rattle.wire.specs.Output.{put, Question, ask, asked, written, outputAfter, Wrote}
 
 pub length-put : (out : List ℕ) (at : ℕ) (bs : List ℕ) → length (put out at bs) ≡ length out
 unfolding put
@@ -59,11 +59,6 @@ module _ (out : List ℕ) (at : ℕ) (bs : List ℕ) (room : at + length bs ≤ 
       ∙ drop-at (take at out ++ bs) (drop (at + length bs) out) (at + length bs) (length-append (take at out) bs ∙ ap (λ (n : ℕ). n + length bs) before-length)
 
 -- ---- one write after another, in code
-
--- a write of the bytes bs to out from the place at ended at e and left last
-pub record Wrote (out : List ℕ) (at : ℕ) (bs : List ℕ) (e : ℕ) (last : List ℕ) : Type 0 where
-  pub end : e ≡ at + length bs
-  pub bytes : last ≡ put out at bs
 
 pub wrote-then : {out : List ℕ} {at : ℕ} {a : List ℕ} {m : ℕ} {mid : List ℕ} {b : List ℕ} {e : ℕ} {last : List ℕ}
     → Wrote out at a m mid → Wrote mid m b e last → Wrote out at (a ++ b) e last

@@ -1,4 +1,5 @@
 -- That given bytes, wherever they stand, are read to a given value and end where they end. Its laws stand in `ReadsBackLaws`.
+-- Only for laws, proofs and private functions: no public contract and no theorem cites what follows.
 use Prim.Native.Nat.{ℕ, _+_, _≤_}
 use mathlib.Core.List.{List}
 use mathlib.Core.Path.{_≡_}

@@ -1,4 +1,5 @@
 -- The cut law of a reader: what its answer over the first k bytes is, beside its answer over all of them. Its laws stand in `StableLaws`.
+-- Only for laws, proofs and private functions: no public contract and no theorem cites what follows.
 use Prim.Native.Nat.{ℕ, _+_, _≤_, _<_}
 use mathlib.Core.Bool.{Bool}
 use mathlib.Core.List.{List}

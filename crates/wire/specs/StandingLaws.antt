@@ -7,8 +7,8 @@ use lib.ListN.{length, take, drop, length-append, length-drop, take-append-drop}
 use lib.Seq.{take-take, take-add, drop-drop, length-take-le}
 use Rattle.wire.specs.declared.Written.{Written}
 use Rattle.wire.specs.declared.Written.the-variants.{To, Refused}
-use Rattle.wire.specs.Output.{put, outputAfter}
-use Rattle.wire.specs.OutputLaws.{Wrote, length-put, put-put, put-eq, put-before, put-here, put-after}
+use Rattle.wire.specs.Output.{put, outputAfter, Wrote}
+use Rattle.wire.specs.OutputLaws.{length-put, put-put, put-eq, put-before, put-here, put-after}
 use Rattle.wire.specs.ReaderLaws.{length-part}
 
 -- storing what stands there changes nothing

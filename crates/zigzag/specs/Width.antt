@@ -1,4 +1,5 @@
 -- The numbers of w bits, signed and unsigned, for any w.
+-- Only for laws, proofs and private functions: no public contract and no theorem cites what follows.
 use Prim.Native.Nat.{ℕ, _-_, _^_, _<_}
 use lib.IntN.{ℤ, pos, negℤ}
 use lib.Signed.{_≤ℤ_, _<ℤ_}

@@ -8,8 +8,8 @@ use denote.Ref.{now}
 use borrow.Author.Needs.{needs}
 use lib.ListN.{length, take, drop}
 use lib.Seq.{take-add, length-take-le}
-use Rattle.wire.specs.Output.{put}
-use Rattle.wire.specs.OutputLaws.{Wrote, wrote-none, wrote-then, wrote-length}
+use Rattle.wire.specs.Output.{put, Wrote}
+use Rattle.wire.specs.OutputLaws.{wrote-none, wrote-then, wrote-length}
 use Rattle.wire.specs.ReaderLaws.{length-part}
 use Rattle.part_write.proofs.put_blocks.Statement.{statement}
 use Rattle.part_write.proofs.put_blocks.Tie as tie

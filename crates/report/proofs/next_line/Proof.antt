@@ -5,7 +5,7 @@ use mathlib.Core.List.{List}
 use mathlib.Core.Path.{_≡_}
 use denote.Ref.{now}
 use lib.ListN.{length}
-use Rattle.wire.specs.OutputLaws.{Wrote}
+use Rattle.wire.specs.Output.{Wrote}
 use Rattle.report.specs.Report.{nextOf}
 use Rattle.report.proofs.LastLaws.{last-step}
 use borrow.Author.Needs.{needs}

@@ -6,8 +6,8 @@ use mathlib.Core.Path.{_≡_}
 use lib.ListN.{length, set, length-set}
 use borrow.Author.Needs.{needs}
 use Rattle.wire.specs.declared.Written.{Written}
-use Rattle.wire.specs.Output.{written, outputAfter}
-use Rattle.wire.specs.OutputLaws.{Wrote, wrote-byte, wrote-then, wrote-length, wrote-checked}
+use Rattle.wire.specs.Output.{written, outputAfter, Wrote}
+use Rattle.wire.specs.OutputLaws.{wrote-byte, wrote-then, wrote-length, wrote-checked}
 use Rattle.vlq_write.proofs.put_short_string.Statement.{statement}
 use Rattle.vlq_write.proofs.put_short_string.Tie as tie
 
