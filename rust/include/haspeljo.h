@@ -23,7 +23,7 @@ enum {
     HASPELJO_OVER_LIMIT = 3,     /* a length or count is above 16,388,608 */
     HASPELJO_NOT_UTF8 = 4,       /* a string is not UTF-8 */
     HASPELJO_SHORT_FRAME = 5,    /* a frame has fewer than 9 bytes */
-    HASPELJO_OTHER_MAGIC = 6,    /* a frame has the magic of another network */
+    HASPELJO_OTHER_MAGIC = 6,    /* a frame does not begin with this network's magic */
     HASPELJO_LONG_BODY = 7,      /* a body is longer than 16,388,608 bytes */
     HASPELJO_SHORT_BODY = 8,     /* bytes of a frame's check or body are missing */
     HASPELJO_OTHER_CHECK = 9,    /* a frame's check does not match its body */
@@ -55,7 +55,7 @@ enum {
 enum {
     HASPELJO_VALID = 0,
     HASPELJO_OLD_VERSION = 1,  /* below 4.0.100 */
-    HASPELJO_OTHER_NETWORK = 2 /* the Session feature has another magic */
+    HASPELJO_OTHER_NETWORK = 2 /* the first Session feature does not begin with this network's magic */
 };
 
 /* Codes of known messages. */

@@ -62,7 +62,7 @@ impl Error {
             Error::OverLimit => "a length or count is above 16,388,608",
             Error::NotUtf8 => "a string is not UTF-8",
             Error::ShortFrame => "a frame has fewer than 9 bytes",
-            Error::OtherMagic => "a frame has the magic of another network",
+            Error::OtherMagic => "a frame does not begin with this network's magic",
             Error::LongBody => "a body is longer than 16,388,608 bytes",
             Error::ShortBody => "bytes of a frame's check or body are missing",
             Error::OtherCheck => "a frame's check does not match its body",

@@ -46,7 +46,7 @@ pub enum Verdict {
     Valid = 0,
     /// The version is below 4.0.100.
     OldVersion = 1,
-    /// The Session feature has another network's magic.
+    /// The first Session feature does not begin with this network's magic.
     OtherNetwork = 2,
 }
 
