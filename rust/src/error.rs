@@ -3,7 +3,7 @@
 use std::error;
 use std::fmt;
 
-/// Why a reading or a writing was refused: document 01's numbers 1 to 16. Shown as a sentence.
+/// Why a reading or a writing was refused: document 01's numbers 1 to 16 (docs/FORMAT.md). Shown as a sentence.
 #[derive(Clone, Copy, Debug, PartialEq, Eq, PartialOrd, Ord, Hash)]
 #[repr(u8)]
 pub enum Error {
