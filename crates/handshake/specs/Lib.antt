@@ -1,5 +1,7 @@
 pub mod Entry
 pub mod EntryLaws
+pub mod Places
+pub mod PlacesLaws
 pub mod Verdict
 pub mod Cases
 pub mod Value
