@@ -48,7 +48,7 @@ module _ {s : List ℕ} {at : ℕ} where
   gives-id : Gives s at (λ g e. IdPlaced s g) (part 32)
   gives-id = record { holds = λ g e q. let p = gives-part 32 .holds g e q in (p .long, p .placed) }
 
-  gives-payload : (size : ℕ) (before : List Payload) → Gives s at (λ p e. PayloadPlaced s p) (payload size before)
+  pub gives-payload : (size : ℕ) (before : List Payload) → Gives s at (λ p e. PayloadPlaced s p) (payload size before)
   unfolding payload payloadAfter
   gives-payload size before =
       gives-then gives-id (λ id next i.
