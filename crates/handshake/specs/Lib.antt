@@ -11,6 +11,8 @@ pub mod Tables
 pub mod Writes
 pub mod TablesLaws
 pub mod RowsLaws
+pub mod ByIndex
+pub mod ByIndexLaws
 pub mod PuttingLaws
 pub mod WritesLaws
 pub mod ModeCases
