@@ -16,7 +16,7 @@ use Rattle.vlq.specs.ShortString.{shortString}
 use Rattle.types.specs.declared.Version.{Version}
 use Rattle.types.specs.declared.Address.{Address}
 use Rattle.handshake.specs.Entry.{version, addressIf, EntryFeature, feature, Entry, entry}
-use Rattle.handshake.specs.PlacesLaws.{gives-feature}
+use Rattle.handshake.specs.PlacesLaws.{gives-feature, gives-entry}
 use Rattle.handshake.specs.Verdict.{firstFeature}
 use Rattle.address_read.specs.DeclaredAddress.{declaredAddress}
 use Rattle.handshake_read.specs.Parts.{EntryHead, head, EntryFeatures, features, nth, featureAt}
@@ -84,6 +84,11 @@ module _ (s : List ℕ) where
       bind-step (addressIf flag s n) (λ address m. featuresThen (headOnly agent v name address) m)
       (λ address m. got (headOnly agent v name address) m) after (λ address n.
       features-then (headOnly agent v name address) n)))))
+
+-- ---- where an entry starts: at its agent's length byte
+
+pub entry-agent : (s : List ℕ) (at : ℕ) {e : Entry} {next : ℕ} → entry s at ≡ got e next → e .agent .start ≡ at + 1
+entry-agent s at {e} {next} q = gives-entry .holds e next q .0
 
 -- ---- the features that were read: from the place of the first, they are read again
 

@@ -11,7 +11,7 @@ use Rattle.handshake.specs.Entry.{EntryFeature, feature, Entry, entry, EntryHan
 use Rattle.handshake.specs.PlacesLaws.{gives-feature, gives-entry, handshake-entry}
 use Rattle.handshake.specs.Value.{featureValue, entryValue, handshakeValue}
 use Rattle.handshake_read.specs.Parts.{featureAt}
-use Rattle.handshake_read.specs.PartsLaws.{entry-read, feature-at}
+use Rattle.handshake_read.specs.PartsLaws.{entry-agent, entry-read, feature-at}
 use Rattle.handshake_read.specs.Answers.{featureOf, peerSpecOf, handshakeOf}
 use Rattle.handshake_read.specs.Values.{featureGiven, peerGiven, handshakeGiven}
 
@@ -22,10 +22,10 @@ feature-given s at {f} {e} q = ap (λ (b : List ℕ). record { id = f .id; body 
 pub peer-given : (s : List ℕ) (at : ℕ) {e : Entry} {next : ℕ} → entry s at ≡ got e next → peerGiven s (peerSpecOf e) ≡ entryValue e
 unfolding peerGiven entryValue
 peer-given s at {e} {next} q =
-    let g = gives-entry .holds e next q in
-    let place : e .agent .start - 1 ≡ at = omega (arith, g .0) in
-    let agent = g .1 .agent .bytes in
-    let name = g .1 .name .bytes in
+    let g = gives-entry .holds e next q .1 in
+    let place : e .agent .start - 1 ≡ at = omega (arith, entry-agent s at q) in
+    let agent = g .agent .bytes in
+    let name = g .name .bytes in
     let features : byIndex (featureGiven s) (λ k. mapAnswer featureOf (featureAt k s (e .agent .start - 1))) (length (e .features)) ≡ map featureValue (e .features) =
     rw place
     (by-index (featureGiven s) (λ k. mapAnswer featureOf (featureAt k s at)) featureValue (λ before. feature) s (e .first) (e .features)

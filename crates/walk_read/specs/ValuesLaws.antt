@@ -22,7 +22,7 @@ module _ (network : Network) (cap : ℕ) (s : List ℕ) where
       → givenValue cap s (itemOf network s at end g v) ≡ fieldsValue g ∷ []
   unfolding itemOf givenValue fieldsValue
   fields-given at (aHandshake q) v = ap (λ x. handshakeOf x ∷ []) (handshake-given s q)
-  fields-given at (aMessage {f = f} {m = m} {e = e} q b) v =
+  fields-given at (aMessage {f = f} {e = e} q b) v =
       let p = frame-places network s at q in
       let n : e - f .body .start ≡ length (f .body .bytes) = omega (arith, p .ends) in
       rw (n, ← p .stands) (ap (λ x. messageOf x ∷ []) (message-given (f .body .bytes) network cap (f .code) b))
