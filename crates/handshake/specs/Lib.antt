@@ -1,5 +1,7 @@
 pub mod Entry
 pub mod EntryLaws
+pub mod Places
+pub mod PlacesLaws
 pub mod Verdict
 pub mod Cases
 pub mod Value
@@ -9,6 +11,8 @@ pub mod Tables
 pub mod Writes
 pub mod TablesLaws
 pub mod RowsLaws
+pub mod ByIndex
+pub mod ByIndexLaws
 pub mod PuttingLaws
 pub mod WritesLaws
 pub mod ModeCases

@@ -10,7 +10,8 @@ use lib.Dec.{leb}
 use lib.ListN.{length, getD, drop}
 use lib.Seq.{getD-take, getD-drop}
 use borrow.Author.Tests.{leb-true}
-use Rattle.wire.specs.BytesLaws.{and-true, Each, none, more, each-of, each-both, each-first, every-each}
+use Rattle.wire.specs.Bytes.{Each, none, more}
+use Rattle.wire.specs.BytesLaws.{and-true, each-of, each-both, each-first, every-each}
 use Rattle.wire.specs.Output.{Question}
 use Rattle.wire.specs.Reader.{pure, andThen, place, listOf}
 use Rattle.wire.specs.ReaderLaws.{field-got}

@@ -3,8 +3,8 @@ use Prim.Native.Nat.{ℕ, _^_, _<_}
 use mathlib.Core.Bool.{true}
 use mathlib.Core.List.{List, [], _∷_}
 use mathlib.Core.Path.{_≡_}
-use Rattle.wire.specs.Bytes.{every}
-use Rattle.wire.specs.BytesLaws.{Each, none, more, isByte}
+use Rattle.wire.specs.Bytes.{every, Each, none, more}
+use Rattle.wire.specs.BytesLaws.{isByte}
 use Rattle.wire.specs.Output.{Question}
 use Rattle.wire.specs.OutputLaws.{AllHold, written-accepted}
 use Rattle.wire.specs.ReadsBack.{ReadsBack}

@@ -1,25 +1,25 @@
--- Laws of `Parts`: an entry is its head and then its features; of the features that were read, each stands where its places say, and the
--- one with an index is what is read after those before it.
-use Prim.Native.Nat.{ℕ, zero, suc, _+_, _≤_}
+-- Laws of `Parts`: an entry is its head and then its features; of the features that were read, the one with an index is what is read after those
+-- before it.
+use Prim.Native.Nat.{ℕ, zero, suc, _+_, _≤_, _<_}
 use native.Mathlib.Omega.{arith}
 use mathlib.Core.Bool.{Bool, true, false, cond}
 use mathlib.Core.List.{List, [], _∷_, _++_}
 use mathlib.Core.Option.{some}
 use mathlib.Core.Path.{_≡_, refl, ap, sym, _∙_}
 use lib.Dec.{eqb}
-use lib.ListN.{length, take, drop}
-use Rattle.wire.specs.Reader.{Answer, got, refused, bind, pure, andThen, place, byte, Segment, part, listOf}
-use Rattle.wire.specs.AnswerLaws.{value-of, end-of, Bound, bind-got, bind-step, bind-twice}
-use Rattle.wire.specs.ReaderLaws.{PartAt, part-at, length-part}
-use Rattle.wire.specs.ListOfLaws.{Listed, end, next, listed, Indexed}
-use Rattle.vlq.specs.Vlq.{vlqLength}
+use lib.ListN.{length}
+use Rattle.wire.specs.Reader.{Answer, got, refused, bind, pure, andThen, place, byte, Segment, listOf}
+use Rattle.wire.specs.AnswerLaws.{bind-got, bind-step, bind-twice}
+use Rattle.wire.specs.ListOfLaws.{Listed, end, next, listed, Indexed, indexed}
+use Rattle.wire.specs.ReadsBack.{Placed}
 use Rattle.vlq.specs.ShortString.{shortString}
 use Rattle.types.specs.declared.Version.{Version}
 use Rattle.types.specs.declared.Address.{Address}
 use Rattle.handshake.specs.Entry.{version, addressIf, EntryFeature, feature, Entry, entry}
+use Rattle.handshake.specs.PlacesLaws.{gives-feature, gives-entry}
 use Rattle.handshake.specs.Verdict.{firstFeature}
 use Rattle.address_read.specs.DeclaredAddress.{declaredAddress}
-use Rattle.handshake_read.specs.Parts.{EntryHead, head, EntryFeatures, features, nth}
+use Rattle.handshake_read.specs.Parts.{EntryHead, head, EntryFeatures, features, nth, featureAt}
 
 -- ---- an entry is its head and then its features
 
@@ -85,46 +85,10 @@ module _ (s : List ℕ) where
       (λ address m. got (headOnly agent v name address) m) after (λ address n.
       features-then (headOnly agent v name address) n)))))
 
--- ---- where things stand
+-- ---- where an entry starts: at its agent's length byte
 
--- a feature's body is in s where its start says, and the next place is its end
-pub record Stands (s : List ℕ) (f : EntryFeature) (next : ℕ) : Type 0 where
-  pub bytes : take (length (f .body .bytes)) (drop (f .body .start) s) ≡ f .body .bytes
-  pub inside : f .body .start + length (f .body .bytes) ≤ length s
-  pub end : f .body .start + length (f .body .bytes) ≡ next
-
-abbrev bodied : ℕ → Segment → EntryFeature
-bodied id body = record { id = id; body = body }
-
--- what follows the length, and what follows the id
-abbrev bodyThen : List ℕ → ℕ → ℕ → ℕ → Answer EntryFeature
-bodyThen s id n = andThen (part n) (λ body. pure (bodied id body)) s
-
-abbrev lengthThen : List ℕ → ℕ → ℕ → Answer EntryFeature
-lengthThen s id = andThen vlqLength (λ n. andThen (part n) (λ body. pure (bodied id body))) s
-
-part-stands : {s : List ℕ} (f : EntryFeature) (n from : ℕ) {g : Segment} {to : ℕ} → PartAt n s from g to → g ≡ f .body → Stands s f to
-part-stands {s} f n from p e =
-    let b : f .body .bytes ≡ take n (drop from s) = ap (λ (g : Segment). g .bytes) (sym e) ∙ p .bytes in
-    let a : f .body .start ≡ from = ap (λ (g : Segment). g .start) (sym e) ∙ p .start in
-    let l : length (f .body .bytes) ≡ n = ap length b ∙ length-part n s from (p .inside) in
-    record { bytes = rw (l, a) (sym b); inside = rw (l, a) (p .inside); end = rw (l, a) (sym (p .end)) }
-
-module _ {s : List ℕ} {f : EntryFeature} {next : ℕ} where
-  body-stands : (id n from : ℕ) → Bound (part n s from) (λ body m. got (bodied id body) m) f next → Stands s f next
-  body-stands id n from b =
-      let h : b .next ≡ next = end-of (b .rest) in
-      rw (← h) (part-stands f n from (part-at n s from (b .answer)) (ap (λ (f : EntryFeature). f .body) (value-of (b .rest))))
-
-  length-stands : (id from : ℕ) → Bound (vlqLength s from) (bodyThen s id) f next → Stands s f next
-  length-stands id from b = body-stands id (b .value) (b .next) (bind-got (part (b .value) s (b .next)) (λ body m. got (bodied id body) m) (b .rest))
-
-  id-stands : (from : ℕ) → Bound (byte s from) (lengthThen s) f next → Stands s f next
-  id-stands from b = length-stands (b .value) (b .next) (bind-got (vlqLength s (b .next)) (bodyThen s (b .value)) (b .rest))
-
-pub feature-stands : (s : List ℕ) (at : ℕ) {f : EntryFeature} {next : ℕ} → feature s at ≡ got f next → Stands s f next
-unfolding feature
-feature-stands s at q = id-stands at (bind-got (byte s at) (lengthThen s) q)
+pub entry-agent : (s : List ℕ) (at : ℕ) {e : Entry} {next : ℕ} → entry s at ≡ got e next → e .agent .start ≡ at + 1
+entry-agent s at {e} {next} q = gives-entry .holds e next q .0
 
 -- ---- the features that were read: from the place of the first, they are read again
 
@@ -160,14 +124,15 @@ entry-read s at {e} {next} q =
 pub entry-listed : (s : List ℕ) (at : ℕ) {e : Entry} {next : ℕ} → entry s at ≡ got e next → Listed (λ before. feature) s [] (e .first) (e .features) next
 entry-listed s at {e} q = listed (λ before. feature) s (length (e .features)) (e .first) (entry-read s at q) .1
 
--- the first feature with an id stands in s
-pub first-stands : (s : List ℕ) (id : ℕ) {before : List EntryFeature} {at e : ℕ} {l : List EntryFeature} → Listed (λ before. feature) s before at l e → {f : EntryFeature} → firstFeature id l ≡ some f → (m : ℕ) × Stands s f m
+-- the body of the first feature with an id stands in s
+pub first-placed : (s : List ℕ) (id : ℕ) {before : List EntryFeature} {at e : ℕ} {l : List EntryFeature} → Listed (λ before. feature) s before at l e
+    → {f : EntryFeature} → firstFeature id l ≡ some f → Placed s (f .body)
 unfolding firstFeature
-first-stands s id end q = let z : _≡_ {A = ℕ} 0 1 = cc in absurd (omega arith)
-first-stands s id (next {at = at} {n = n} {a = g} {l = fs} h rest) {f} q = go (eqb (g .id) id) q (λ r. first-stands s id rest r)
+first-placed s id end q = let z : _≡_ {A = ℕ} 0 1 = cc in absurd (omega arith)
+first-placed s id (next {n = n} {a = g} {l = fs} h rest) {f} q = go (eqb (g .id) id) q (λ r. first-placed s id rest r)
   where
-    go : (b : Bool) → cond b (some g) (firstFeature id fs) ≡ some f → (firstFeature id fs ≡ some f → (m : ℕ) × Stands s f m) → (m : ℕ) × Stands s f m
-    go true q k = let u : g ≡ f = cc in (n, rw (← u) (feature-stands s at h))
+    go : (b : Bool) → cond b (some g) (firstFeature id fs) ≡ some f → (firstFeature id fs ≡ some f → Placed s (f .body)) → Placed s (f .body)
+    go true q k = let u : g ≡ f = cc in rw (← u) (gives-feature .holds g n h .0)
     go false q k = k q
 
 -- the feature with an index inside is read after those before it
@@ -182,8 +147,16 @@ nth-indexed s k i =
     ap (nth k) (i .all)
     ∙ ap (λ (k : ℕ). nth k (i .before ++ (i .value ∷ i .rest))) (sym (i .counted))
     ∙ nth-among (i .before) (i .value) (i .rest)
-    ∙ ap (got (i .value)) (feature-stands s (i .from) (i .read) .end)
+    ∙ ap (got (i .value)) (gives-feature .holds (i .value) (i .next) (i .read) .1)
     ∙ sym (i .read)
+
+-- by index: the feature at that place of the list that the entry is read to
+pub feature-at : (k : ℕ) (s : List ℕ) (at : ℕ) {e : Entry} {next : ℕ} → entry s at ≡ got e next → k < length (e .features)
+    → (x : Indexed (λ before. feature) s (e .first) k (e .features)) × (featureAt k s at ≡ got (x .value) (x .next))
+unfolding featureAt
+feature-at k s at q h =
+    let x = indexed (λ before. feature) s k (entry-listed s at q) h in
+    (x, rw q (nth-indexed s k x ∙ x .read))
 
 pub nth-outside : (k : ℕ) (l : List EntryFeature) → length l ≤ k → nth k l ≡ refused 12
 unfolding nth

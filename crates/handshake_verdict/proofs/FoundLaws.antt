@@ -17,7 +17,7 @@ use Rattle.handshake_verdict.specs.declared.Found.{Found}
 use Rattle.handshake_verdict.specs.declared.Found.the-variants.{At, None}
 use Rattle.handshake_read.specs.declared.Feature.{Feature}
 use Rattle.handshake_read.specs.declared.PeerSpec.{PeerSpec}
-use Rattle.handshake_read.specs.PartsLaws.{entry-read, entry-listed, first-stands}
+use Rattle.handshake_read.specs.PartsLaws.{entry-read, entry-listed, first-placed}
 use Rattle.handshake_read.specs.Answers.{featureOf, peerSpecOf}
 use Rattle.handshake_verdict.specs.Answers.{featureIfAny, firstIn, found, orThis, foundIn, Inside}
 
@@ -34,9 +34,9 @@ found-first s id {l = l} first q h = go (firstFeature id l) refl first h
     go none p (At f) h = let z : _≡_ {A = ℕ} 0 1 = cc in absurd (omega arith)
     go none p None h = record { inside = tt; same = refl }
     go (some g) p (At f) h =
-        let t = first-stands s id q p .1 in
+        let t = first-placed s id q p in
         let u : featureOf g ≡ f = cc in
-        rw (← u) (record { inside = t .inside; same = ap (λ (b : List ℕ). some (with-bytes g b)) (t .bytes) })
+        rw (← u) (record { inside = t .within; same = ap (λ (b : List ℕ). some (with-bytes g b)) (t .bytes) })
       where
         with-bytes : EntryFeature → List ℕ → EntryFeature
         with-bytes g b = record { id = g .id; body = record { start = g .body .start; bytes = b } }

@@ -1,6 +1,8 @@
 pub mod Message
 pub mod Value
 pub mod MessageLaws
+pub mod Places
+pub mod PlacesLaws
 pub mod Cases
 pub mod Writes
 pub mod WritesLaws

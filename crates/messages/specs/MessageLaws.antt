@@ -8,7 +8,8 @@ use mathlib.Core.Path.{_≡_, refl, ap, ap₂, _∙_}
 use lib.Dec.{eqb, leb}
 use lib.ListN.{length, length-append}
 use borrow.Author.Tests.{le-leb, leb-true, not-true}
-use Rattle.wire.specs.BytesLaws.{Each, none, more, each-between, each-append-left, each-append-right, every-each, and-true, length-flatMap-cons}
+use Rattle.wire.specs.Bytes.{Each, none, more}
+use Rattle.wire.specs.BytesLaws.{each-between, each-append-left, each-append-right, every-each, and-true, length-flatMap-cons}
 use Rattle.wire.specs.ListLaws.{reads-listOf, reads-each}
 use Rattle.wire.specs.Output.{ask}
 use Rattle.wire.specs.Reader.{got, Reader, pure, andThen, Segment, part, listOf}

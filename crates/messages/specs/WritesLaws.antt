@@ -6,8 +6,8 @@ use mathlib.Core.List.{List, map}
 use mathlib.Core.Path.{_≡_, refl}
 use lib.ListN.{length}
 use borrow.Author.Tests.{leb-true}
-use Rattle.wire.specs.Bytes.{every}
-use Rattle.wire.specs.BytesLaws.{and-true, Each, none, more, every-each, each-both, each-append-right, each-first, each-rest, isByte}
+use Rattle.wire.specs.Bytes.{every, Each, none, more}
+use Rattle.wire.specs.BytesLaws.{and-true, every-each, each-both, each-append-right, each-first, each-rest, isByte}
 use Rattle.wire.specs.OutputLaws.{written-accepted}
 use Rattle.wire.specs.declared.Written.the-variants.{To}
 use Rattle.vlq.specs.Vlq.{limit}

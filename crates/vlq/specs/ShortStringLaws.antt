@@ -1,4 +1,4 @@
--- Laws of short strings: the cut law, that what is written is read back, and the string's answers from tests.
+-- Laws of short strings: the cut law, where the bytes stand, that what is written is read back, and the string's answers from tests.
 use Prim.Native.Nat.{ℕ, _+_, _-_, _≤_, _<_}
 use native.Mathlib.Omega.{arith}
 use mathlib.Core.Bool.{Bool, true, false, cond}
@@ -6,11 +6,12 @@ use mathlib.Core.List.{List, [], _∷_}
 use mathlib.Core.Path.{_≡_, ap, _∙_}
 use lib.Dec.{T}
 use lib.ListN.{length, take, drop}
+use Rattle.wire.specs.GivesLaws.{Gives, gives-then, gives-guard, gives-byte, gives-part}
 use Rattle.wire.specs.Reader.{got, refused, partOf, mapAnswer}
 use Rattle.wire.specs.ReaderLaws.{part-got, part-missing, part-outside, length-part}
 use Rattle.wire.specs.Stable.{Stable}
 use Rattle.wire.specs.StableLaws.{stable-then, stable-guard, stable-byte, stable-part}
-use Rattle.wire.specs.ReadsBack.{ReadsBack}
+use Rattle.wire.specs.ReadsBack.{ReadsBack, Placed}
 use Rattle.wire.specs.ReadsBackLaws.{bytesOf, reads-then, reads-last, reads-guard, reads-byte, reads-part}
 use Rattle.utf8.specs.Utf8.{utf8}
 use Rattle.vlq.specs.ShortString.{string, shortString, shortStringBytes}
@@ -39,6 +40,16 @@ module _ {isCut : ℕ → Bool} (one : T (isCut 1)) where
   pub stable-shortString : Stable isCut shortString
   unfolding shortString
   stable-shortString = stable-then (stable-byte one) stable-string
+
+module _ {s : List ℕ} {at : ℕ} where
+  gives-string : (n : ℕ) → Gives s at (λ g e. (g .start ≡ at) × Placed s g) (string n)
+  unfolding string
+  gives-string n = gives-then (gives-part n) (λ g next h. gives-guard (utf8 (g .bytes)) 4 g (h .start, h .placed))
+
+-- a short string's bytes stand after its length byte
+pub gives-shortString : {s : List ℕ} {at : ℕ} → Gives s at (λ g e. (g .start ≡ at + 1) × Placed s g) shortString
+unfolding shortString
+gives-shortString = gives-then gives-byte (λ n next h. rw h (gives-string n))
 
 reads-string : (w : List ℕ) → utf8 w ≡ true → ReadsBack (string (length w)) bytesOf w w
 unfolding string

@@ -1,6 +1,7 @@
 pub mod Walk
 pub mod CutRule
 pub mod Session
+pub mod Places
 pub mod WrittenSession
 pub mod Calls
 pub mod Theorems
@@ -9,5 +10,6 @@ pub mod CutRuleLaws
 pub mod WrittenLaws
 pub mod CallsLaws
 pub mod SessionLaws
+pub mod PlacesLaws
 pub mod TheoremsProved
 pub mod Cases

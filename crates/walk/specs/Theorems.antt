@@ -4,10 +4,12 @@ use mathlib.Core.List.{List, [], _∷_, map}
 use mathlib.Core.Logic.{_↔_, _⊎_}
 use mathlib.Core.Path.{_≡_}
 use lib.ListN.{length, take}
+use Rattle.wire.specs.Bytes.{Each}
 use Rattle.types.specs.declared.Network.{Network}
 use Rattle.walk.specs.Walk.{Layer, Item, clean, stopped, Reading}
 use Rattle.walk.specs.CutRule.{CutRule}
 use Rattle.walk.specs.Session.{Content, sessionReading}
+use Rattle.walk.specs.Places.{FieldsPlaced}
 use Rattle.walk.specs.WrittenSession.{Write, writeValue, AllTyped, Done, writeAll, sessionBytes, HandshakeFirst, itemValues}
 use Rattle.walk.specs.Calls.{Calls, StepsFrom}
 
@@ -24,6 +26,10 @@ module _ (network : Network) (cap : ℕ) where
   -- The cut rule: for all bytes and every cut up to their length.
   abbrev pub CutAnywhere : Type 0
   CutAnywhere = (s : List ℕ) (k : ℕ) → k ≤ length s → CutRule k (sessionReading network cap s) (sessionReading network cap (take k s))
+
+  -- The bytes of each item's fields stand at their places: a handshake's in the session's bytes, a message's in its body.
+  abbrev pub PlacesHold : Type 0
+  PlacesHold = (s : List ℕ) → Each (λ i. FieldsPlaced s (i .end) (i .holds .fields)) (sessionReading network cap s .items)
 
   -- Whatever a list of calls of our writers leaves, by their contracts, is what `writeAll` says of the list.
   abbrev pub CallsAreWrites : Type 0

@@ -4,12 +4,13 @@ use native.Mathlib.Omega.{arith}
 use Rattle.types.specs.declared.Network.{Network}
 use Rattle.walk.specs.Walk.{reading}
 use Rattle.walk.specs.Session.{sessionReading}
-use Rattle.walk.specs.Theorems.{StepsAreReading, CutAnywhere, CallsAreWrites, ReadsAsWritten, OneMeaning, Ends}
+use Rattle.walk.specs.Theorems.{StepsAreReading, CutAnywhere, PlacesHold, CallsAreWrites, ReadsAsWritten, OneMeaning, Ends}
 use Rattle.walk.specs.WalkLaws.{walks, walk-ends, walk-chained, walk-room}
 use Rattle.walk.specs.CutRuleLaws.{cut-rule}
 use Rattle.walk.specs.WrittenLaws.{written-reads, written-once}
 use Rattle.walk.specs.CallsLaws.{steps-read, read-steps, calls-write-all}
 use Rattle.walk.specs.SessionLaws.{session-readers, session-writers}
+use Rattle.walk.specs.PlacesLaws.{items-placed}
 
 module _ (network : Network) (cap : ℕ) where
   pub steps-are-reading : StepsAreReading network cap
@@ -18,6 +19,9 @@ module _ (network : Network) (cap : ℕ) where
   pub cut-anywhere : CutAnywhere network cap
   unfolding sessionReading
   cut-anywhere = cut-rule (session-readers network cap)
+
+  pub places-hold : PlacesHold network cap
+  places-hold = items-placed network cap
 
   pub calls-are-writes : CallsAreWrites network cap
   calls-are-writes ws out d calls = calls-write-all network cap calls

@@ -1,4 +1,4 @@
--- Lists of bytes: numbers written with the highest byte first, whether two lists are the same, and a test of every element.
+-- Lists of bytes: numbers written with the highest byte first, whether two lists are the same, a test of every element, and what holds of each.
 use Prim.Native.Nat.{ℕ, zero, suc, _+_, _*_, _/_, _%_, _^_}
 use mathlib.Core.Bool.{Bool, true, false, _&&_}
 use mathlib.Core.List.{List, [], _∷_}
@@ -27,3 +27,8 @@ sameBytes (a ∷ as′) (b ∷ bs) = eqb a b && sameBytes as′ bs
 unfoldable pub every : {A : Type 0} → (A → Bool) → List A → Bool
 every test [] = true
 every test (a ∷ l) = test a && every test l
+
+-- P of each element
+pub data Each {A : Type 0} (P : A → Type 0) : List A → Type 0 where
+  none : Each P []
+  more : {a : A} {l : List A} → P a → Each P l → Each P (a ∷ l)

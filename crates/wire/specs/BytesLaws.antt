@@ -11,7 +11,7 @@ use lib.Arith.{digits-lt, digits-div, digits-mod, mod-mul}
 use lib.Dec.{eqb, ltb}
 use lib.ListN.{length, take, drop, length-append}
 use borrow.Author.Tests.{lt-ltb, ltb-true, eq-eqb, eqb-true}
-use Rattle.wire.specs.Bytes.{bigEndianFrom, bigEndian, bigEndianBytes, sameBytes, every}
+use Rattle.wire.specs.Bytes.{bigEndianFrom, bigEndian, bigEndianBytes, sameBytes, every, Each, none, more}
 
 pub and-true : (t u : Bool) → t && u ≡ true → (t ≡ true) × (u ≡ true)
 and-true true u e = (refl, e)
@@ -22,11 +22,6 @@ or-true true u e = inl refl
 or-true false u e = inr e
 
 -- ---- every element
-
--- P of each element
-pub data Each {A : Type 0} (P : A → Type 0) : List A → Type 0 where
-  none : Each P []
-  more : {a : A} {l : List A} → P a → Each P l → Each P (a ∷ l)
 
 module _ {A : Type 0} {P : A → Type 0} where
   pub each-append-left : (k l : List A) → Each P (k ++ l) → Each P k

@@ -13,6 +13,7 @@ pub mod StandingLaws
 pub mod ReadsBack
 pub mod ReadsBackLaws
 pub mod ListLaws
+pub mod GivesLaws
 pub mod Numbers
 pub mod UpTo
 pub mod UpToLaws

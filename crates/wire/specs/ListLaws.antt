@@ -4,7 +4,8 @@ use Prim.Native.Nat.{ℕ}
 use mathlib.Core.List.{List, [], _∷_, _++_, map, flatMap, append-nil, append-assoc, map-append}
 use mathlib.Core.Path.{_≡_, refl, sym, _∙_}
 use lib.ListN.{length}
-use Rattle.wire.specs.BytesLaws.{Each, each-between}
+use Rattle.wire.specs.Bytes.{Each}
+use Rattle.wire.specs.BytesLaws.{each-between}
 use Rattle.wire.specs.Reader.{Reader, pure, andThen, fold, listOf}
 use Rattle.wire.specs.ReadsBack.{ReadsBack}
 use Rattle.wire.specs.ReadsBackLaws.{reads-pure, reads-then, reads-last}
