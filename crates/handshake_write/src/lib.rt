@@ -3,8 +3,8 @@
 ghost use mathlib.Core.Path.{_≡_};
 ghost use Prim.Native.Nat.{_^_, _<_};
 ghost use mathlib.Core.Bool.{true};
+ghost use lib.Dec.{ltb};
 ghost use Rattle.wire.specs.Bytes.{every};
-ghost use Rattle.wire.specs.BytesLaws.{isByte};
 ghost use Rattle.wire.specs.Output.{outputAfter};
 ghost use Rattle.handshake.specs.Value.{handshakeBytes};
 ghost use Rattle.handshake.specs.Tables.{lent};
@@ -28,7 +28,7 @@ pub fn write_handshake(
 ) -> Written
     ensures { λ r. ⌜ r ≡ handshakeWritten timestamp (lent (now (entries .entry)) (now (features .entry)) (now (buffer .entry))) k (now (out .entry)) at ⌝ }
     ensures { λ r. ⌜ now (out .exit) ≡ outputAfter r (now (out .entry)) at (handshakeBytes (handshakeAt timestamp (lent (now (entries .entry)) (now (features .entry)) (now (buffer .entry))) k)) ⌝ }
-    ensures { λ _. ⌜ (timestamp < 2 ^ 64) × (every isByte (now (buffer .entry)) ≡ true) ⌝ }
+    ensures { λ _. ⌜ (timestamp < 2 ^ 64) × (every (λ b. ltb b 256) (now (buffer .entry)) ≡ true) ⌝ }
 {
     let v = vlq_len(timestamp);
     let answer = write_entry(

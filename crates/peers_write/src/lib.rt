@@ -3,9 +3,9 @@
 ghost use mathlib.Core.Path.{_≡_};
 ghost use Prim.Native.Nat.{_+_, _/_, _≤_};
 ghost use mathlib.Core.Bool.{true};
+ghost use lib.Dec.{ltb};
 ghost use lib.ListN.{length};
 ghost use Rattle.wire.specs.Bytes.{every};
-ghost use Rattle.wire.specs.BytesLaws.{isByte};
 ghost use Rattle.wire.specs.Output.{outputAfter};
 ghost use Rattle.vlq.specs.Vlq.{vlqBytes};
 ghost use Rattle.frame.specs.Frame.{frameBytes};
@@ -31,7 +31,7 @@ pub fn write_peers(
 ) -> Written
     ensures { λ r. ⌜ r ≡ messageWritten network cap (writePeers (lent (now (entries .entry)) (now (features .entry)) (now (buffer .entry)))) (now (out .entry)) at ⌝ }
     ensures { λ r. ⌜ now (out .exit) ≡ outputAfter r (now (out .entry)) at (messageBytes network (valueOf (writePeers (lent (now (entries .entry)) (now (features .entry)) (now (buffer .entry)))))) ⌝ }
-    ensures { λ _. ⌜ every isByte (now (buffer .entry)) ≡ true ⌝ }
+    ensures { λ _. ⌜ every (λ b. ltb b 256) (now (buffer .entry)) ≡ true ⌝ }
 {
     let count = entries.len() / 12;
     if starts(out.len(), at, cap, count) {
