@@ -11,3 +11,4 @@ pub mod CallsLaws
 pub mod SessionLaws
 pub mod TheoremsProved
 pub mod Cases
+pub mod ValueCases
