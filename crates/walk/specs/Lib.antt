@@ -4,11 +4,13 @@ pub mod Session
 pub mod WrittenSession
 pub mod Calls
 pub mod Theorems
+pub mod Demands
 pub mod WalkLaws
 pub mod CutRuleLaws
 pub mod WrittenLaws
 pub mod CallsLaws
 pub mod SessionLaws
 pub mod TheoremsProved
+pub mod DemandsProved
 pub mod Cases
 pub mod ValueCases
