@@ -40,7 +40,7 @@ pub struct Config {
     pub session: i64,
 }
 
-// A handshake with the features Mode and Session.
+// A handshake with the features Mode and Session. The last clause is what the types of timestamp and address say; written sessions rest on it.
 pub fn build(out: &mut [u8], at: usize, config: Config, agent: &[u8], name: &[u8]) -> Written
     ensures { λ r. ⌜ r ≡ builtWritten (configOf config (now (agent .entry)) (now (name .entry))) (now (out .entry)) at ⌝ }
     ensures { λ r. ⌜ now (out .exit) ≡ outputAfter r (now (out .entry)) at (handshakeBytes (built (configOf config (now (agent .entry)) (now (name .entry))))) ⌝ }

@@ -17,6 +17,7 @@ use vlq_write::write_vlq;
 use wire::Written;
 
 // A timestamp with the entry in row k. The entry is written first, behind the timestamp's place: its writer asks every question.
+// The last clause is what the types of timestamp and buffer say; written sessions rest on it.
 pub fn write_handshake(
     out: &mut [u8],
     at: usize,

@@ -19,7 +19,7 @@ use types::Network;
 use wire::MAX_BODY_SIZE;
 use wire::Written;
 
-// The entries of a table, at most cap of them.
+// The entries of a table, at most cap of them. The last clause is what the type of buffer says; written sessions rest on it.
 pub fn write_peers(
     out: &mut [u8],
     at: usize,

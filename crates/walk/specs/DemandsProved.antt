@@ -140,8 +140,7 @@ module _ (network : Network) (cap : ℕ) where
   pub cut-stops : CutStops network cap
   cut-stops s k h not =
       let c = cut-anywhere network cap s k h in
-      let r = c .stops (λ e. not (an-end e)) in
-      (
+      let r = c .stops (λ e. not (an-end e)) in (
         r .0,
         r .1,
         _,
