@@ -1,11 +1,11 @@
 // A handshake from its values (transport/handshake.rs `build`), written into a lent output from a place.
 // Every question is asked first, and bytes are stored only once each is answered "yes".
 ghost use mathlib.Core.Path.{_≡_};
-ghost use Prim.Native.Nat.{_+_, _≤_};
+ghost use Prim.Native.Nat.{_+_, _^_, _≤_, _<_};
 ghost use lib.ListN.{length};
 ghost use Rattle.wire.specs.Output.{put, outputAfter, Wrote};
 ghost use Rattle.vlq.specs.Vlq.{vlqBytes};
-ghost use Rattle.handshake.specs.Value.{addressBytes, versionBytes, handshakeBytes};
+ghost use Rattle.handshake.specs.Value.{AddressTyped, addressBytes, versionBytes, handshakeBytes};
 ghost use Rattle.handshake.specs.Writes.{built, builtWritten};
 ghost use Rattle.handshake_build.specs.Parts.{endOf, configOf, builtSaid, BuildReady, headBytes, modeBytes, sessionBytes};
 use address_write::address_len;
@@ -39,10 +39,11 @@ pub struct Config {
     pub session: i64,
 }
 
-// A handshake with the features Mode and Session.
+// A handshake with the features Mode and Session. The last clause is what the types of timestamp and address say; written sessions rest on it.
 pub fn build(out: &mut [u8], at: usize, config: Config, agent: &[u8], name: &[u8]) -> Written
     ensures { λ r. ⌜ r ≡ builtWritten (configOf config (now (agent .entry)) (now (name .entry))) (now (out .entry)) at ⌝ }
     ensures { λ r. ⌜ now (out .exit) ≡ outputAfter r (now (out .entry)) at (handshakeBytes (built (configOf config (now (agent .entry)) (now (name .entry))))) ⌝ }
+    ensures { λ _. ⌜ (config .timestamp < 2 ^ 64) × AddressTyped (config .address) ⌝ }
 {
     let answer = ask_build(out.len(), at, config, agent, name);
     if let Written::To(_) = answer {

@@ -1,6 +1,10 @@
 // A timestamp with the entry in a row of a table, written into a lent output from a place (transport/handshake.rs).
 // The writer asks all its questions first and stores only once each is answered "yes".
 ghost use mathlib.Core.Path.{_≡_};
+ghost use Prim.Native.Nat.{_^_, _<_};
+ghost use mathlib.Core.Bool.{true};
+ghost use lib.Dec.{ltb};
+ghost use Rattle.wire.specs.Bytes.{every};
 ghost use Rattle.wire.specs.Output.{outputAfter};
 ghost use Rattle.handshake.specs.Value.{handshakeBytes};
 ghost use Rattle.handshake.specs.Tables.{lent};
@@ -13,6 +17,7 @@ use vlq_write::write_vlq;
 use wire::Written;
 
 // A timestamp with the entry in row k. The entry is written first, behind the timestamp's place: its writer asks every question.
+// The last clause is what the types of timestamp and buffer say; written sessions rest on it.
 pub fn write_handshake(
     out: &mut [u8],
     at: usize,
@@ -24,6 +29,7 @@ pub fn write_handshake(
 ) -> Written
     ensures { λ r. ⌜ r ≡ handshakeWritten timestamp (lent (now (entries .entry)) (now (features .entry)) (now (buffer .entry))) k (now (out .entry)) at ⌝ }
     ensures { λ r. ⌜ now (out .exit) ≡ outputAfter r (now (out .entry)) at (handshakeBytes (handshakeAt timestamp (lent (now (entries .entry)) (now (features .entry)) (now (buffer .entry))) k)) ⌝ }
+    ensures { λ _. ⌜ (timestamp < 2 ^ 64) × (every (λ b. ltb b 256) (now (buffer .entry)) ≡ true) ⌝ }
 {
     let v = vlq_len(timestamp);
     let answer = write_entry(

@@ -2,7 +2,10 @@
 // The writer asks its questions first and stores only once all are answered "yes".
 ghost use mathlib.Core.Path.{_≡_};
 ghost use Prim.Native.Nat.{_+_, _/_, _≤_};
+ghost use mathlib.Core.Bool.{true};
+ghost use lib.Dec.{ltb};
 ghost use lib.ListN.{length};
+ghost use Rattle.wire.specs.Bytes.{every};
 ghost use Rattle.wire.specs.Output.{outputAfter};
 ghost use Rattle.vlq.specs.Vlq.{vlqBytes};
 ghost use Rattle.frame.specs.Frame.{frameBytes};
@@ -16,7 +19,7 @@ use types::Network;
 use wire::MAX_BODY_SIZE;
 use wire::Written;
 
-// The entries of a table, at most cap of them.
+// The entries of a table, at most cap of them. The last clause is what the type of buffer says; written sessions rest on it.
 pub fn write_peers(
     out: &mut [u8],
     at: usize,
@@ -28,6 +31,7 @@ pub fn write_peers(
 ) -> Written
     ensures { λ r. ⌜ r ≡ messageWritten network cap (writePeers (lent (now (entries .entry)) (now (features .entry)) (now (buffer .entry)))) (now (out .entry)) at ⌝ }
     ensures { λ r. ⌜ now (out .exit) ≡ outputAfter r (now (out .entry)) at (messageBytes network (valueOf (writePeers (lent (now (entries .entry)) (now (features .entry)) (now (buffer .entry)))))) ⌝ }
+    ensures { λ _. ⌜ every (λ b. ltb b 256) (now (buffer .entry)) ≡ true ⌝ }
 {
     let count = entries.len() / 12;
     if starts(out.len(), at, cap, count) {

@@ -1,5 +1,5 @@
--- Sessions told by calls, one after the other. Of our writers on one output: what each call returned and left, by the two equations that the
--- contract of every writer ensures. Of the step: its answers from a place on. `writeAll` and `sessionReading` compute the same from the writes and
+-- Sessions told by calls, one after the other. Of our writers on one output: what each call returned and left, and of what types its arguments were,
+-- as the contract of every writer ensures. Of the step: its answers from a place on. `writeAll` and `sessionReading` compute the same from the writes and
 -- the bytes alone (`Theorems`: `CallsAreWrites`, `StepsAreReading`).
 use Prim.Native.Nat.{ℕ}
 use mathlib.Core.List.{List, [], _∷_}
@@ -10,7 +10,7 @@ use Rattle.wire.specs.declared.Written.the-variants.{To, Refused}
 use Rattle.types.specs.declared.Network.{Network}
 use Rattle.walk.specs.Walk.{Layer, Item, item, cleanEnd, stop, clean, stopped, Reading}
 use Rattle.walk.specs.Session.{Content, sessionStep}
-use Rattle.walk.specs.WrittenSession.{Write, said, writeBytes, Done}
+use Rattle.walk.specs.WrittenSession.{Write, Typed, said, writeBytes, Done}
 
 -- ---- writes
 
@@ -29,6 +29,7 @@ module _ (network : Network) (cap : ℕ) where
   pub record Called (w : Write) (out : List ℕ) (at : ℕ) (r : Written) (left : List ℕ) : Type 0 where
     pub answer : r ≡ said network cap w out at
     pub output : left ≡ outputAfter r out at (writeBytes network cap w)
+    pub typed : Typed w
 
   -- calls one after the other, from the output out and the place at on: what they left, where the last accepted one ended, and the accepted ones
   pub data Calls : List Write → List ℕ → ℕ → Done → Type 0 where

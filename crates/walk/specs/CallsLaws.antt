@@ -1,55 +1,72 @@
--- A list of calls leaves what `writeAll` says: by the list, each call's two equations put in for what it returned and left. The two equations are
--- those that the contracts of the writers state, which say cap 0 where the cap is not asked. And the answers of the steps are the reading: the walk from
+-- A list of calls leaves what `writeAll` says: by the list, each call's two equations put in for what it returned and left. The equations and the
+-- ranges of numbers are those that the contracts of the writers state, which say cap 0 where the cap is not asked. And the answers of the steps are the reading: the walk from
 -- a place is the step's answer there and the walk from its end (`walk-step`), and it comes to an end (`walks`).
-use Prim.Native.Nat.{ℕ, _≤_}
+use Prim.Native.Nat.{ℕ, _^_, _≤_, _<_}
 use native.Mathlib.Omega.{arith}
+use mathlib.Core.Bool.{true}
 use mathlib.Core.List.{List}
-use lib.ListN.{length}
 use mathlib.Core.Path.{_≡_, refl, sym, _∙_}
+use lib.Dec.{ltb}
 use lib.ListN.{length}
+use Rattle.wire.specs.Bytes.{every}
 use Rattle.wire.specs.Output.{outputAfter}
 use Rattle.wire.specs.declared.Written.{Written}
 use Rattle.wire.specs.declared.Written.the-variants.{To, Refused}
 use Rattle.types.specs.declared.Network.{Network}
-use Rattle.handshake.specs.Value.{handshakeBytes}
+use Rattle.handshake.specs.Value.{AddressTyped, handshakeBytes}
 use Rattle.handshake.specs.Tables.{Lent}
 use Rattle.handshake.specs.Writes.{Config, built, builtWritten, handshakeAt, handshakeWritten}
-use Rattle.messages.specs.Writes.{MessageWrite, writePeers, valueOf, messageBytes, messageWritten}
+use Rattle.messages.specs.Writes.{MessageWrite, writeGetPeers, writePeers, writeModifierRequest, writeModifierResponse, writeInv, writeSyncInfo, writeUnknown, valueOf, messageBytes, messageWritten}
 use Rattle.messages.specs.WritesLaws.{any-cap}
 use Rattle.walk.specs.Walk.{item, stop, Reading, stepTo, onward, walk, reading}
 use Rattle.walk.specs.Session.{Content, handshakeAt as handshakeOpened, messageAt, sessionStep, sessionReading}
 use Rattle.walk.specs.WalkLaws as WalkLaws
 use Rattle.walk.specs.WalkLaws.{step-end, step-open, Walks, walks, walk-over, walk-stops, walk-goes, step-item, walk-step}
 use Rattle.walk.specs.SessionLaws.{session-readers}
-use Rattle.walk.specs.WrittenSession.{Write, writeHandshake, writeBuilt, writeMessage, said, writeBytes, Done, after, writeAll}
+use Rattle.walk.specs.WrittenSession as Session
+use Rattle.walk.specs.WrittenSession.{Write, writeHandshake, writeBuilt, writeMessage, bytesTyped, MessageTyped, Typed, AllTyped, said, writeBytes, Done, after, writeAll}
 use Rattle.walk.specs.Calls.{nextPlace, withAccepted, Called, Calls, none, call, StepsFrom, more, over, stops}
 
 -- ---- the contracts as calls
+
+-- of a message that is no Peers nothing needs to be said
+message-typed : (w : MessageWrite) → ((l : Lent) → w ≡ writePeers l → ⊥) → MessageTyped w
+unfolding MessageTyped
+message-typed (writePeers l) other = absurd (other l refl)
+message-typed writeGetPeers other = tt
+message-typed (writeModifierRequest type ids buffer) other = tt
+message-typed (writeModifierResponse type payloads buffer) other = tt
+message-typed (writeInv type ids buffer) other = tt
+message-typed (writeSyncInfo body) other = tt
+message-typed (writeUnknown code body) other = tt
 
 module _ (network : Network) (cap : ℕ) {out left : List ℕ} {at : ℕ} {r : Written} where
   pub called-handshake :
       (timestamp : ℕ) (l : Lent) (k : ℕ)
       → r ≡ handshakeWritten timestamp l k out at
       → left ≡ outputAfter r out at (handshakeBytes (handshakeAt timestamp l k))
+      → (timestamp < 2 ^ 64) × (every (λ b. ltb b 256) (l .buffer) ≡ true)
       → Called network cap (writeHandshake timestamp l k) out at r left
-  unfolding said writeBytes
-  called-handshake timestamp l k a o = record { answer = a; output = o }
+  unfolding said writeBytes Typed bytesTyped
+  called-handshake timestamp l k a o t = record { answer = a; output = o; typed = t }
 
   pub called-built :
       (c : Config)
       → r ≡ builtWritten c out at
       → left ≡ outputAfter r out at (handshakeBytes (built c))
+      → (c .timestamp < 2 ^ 64) × AddressTyped (c .address)
       → Called network cap (writeBuilt c) out at r left
-  unfolding said writeBytes
-  called-built c a o = record { answer = a; output = o }
+  unfolding said writeBytes Typed
+  called-built c a o t = record { answer = a; output = o; typed = t }
 
   pub called-peers :
       (l : Lent)
       → r ≡ messageWritten network cap (writePeers l) out at
       → left ≡ outputAfter r out at (messageBytes network (valueOf (writePeers l)))
+      → every (λ b. ltb b 256) (l .buffer) ≡ true
       → Called network cap (writeMessage (writePeers l)) out at r left
-  unfolding said writeBytes
-  called-peers l a o = record { answer = a; output = o }
+  unfolding said writeBytes Typed MessageTyped bytesTyped
+  called-peers l a o t = record { answer = a; output = o; typed = t }
 
   pub called-message :
       (w : MessageWrite)
@@ -57,8 +74,8 @@ module _ (network : Network) (cap : ℕ) {out left : List ℕ} {at : ℕ} {r : W
       → r ≡ messageWritten network 0 w out at
       → left ≡ outputAfter r out at (messageBytes network (valueOf w))
       → Called network cap (writeMessage w) out at r left
-  unfolding said writeBytes
-  called-message w other a o = record { answer = a ∙ sym (any-cap network cap w other out at); output = o }
+  unfolding said writeBytes Typed
+  called-message w other a o = record { answer = a ∙ sym (any-cap network cap w other out at); output = o; typed = message-typed w other }
 
 -- ---- a list of calls
 
@@ -81,6 +98,20 @@ module _ (network : Network) (cap : ℕ) where
   calls-write-all (call {w} {ws} {out} {left} {at} {r} {d} c rest) =
       let e = calls-write-all rest in
       rw (after-rest, ← c .answer, ← c .output, ← e)
+
+  pub calls-typed : {ws : List Write} {out : List ℕ} {at : ℕ} {d : Done} → Calls network cap ws out at d → AllTyped ws
+  calls-typed none = Session.none
+  calls-typed (call c rest) = Session.more (c .typed) (calls-typed rest)
+
+  -- typed writes can be called, and leave that
+  pub write-all-calls : {ws : List Write} → AllTyped ws → (out : List ℕ) (at : ℕ) → Calls network cap ws out at (writeAll network cap ws out at)
+  unfolding writeAll
+  write-all-calls Session.none out at = none
+  write-all-calls (Session.more {w = w} {ws = ws} t ts) out at =
+      let r : Written = said network cap w out at in
+      let left : List ℕ = outputAfter r out at (writeBytes network cap w) in
+      rw (after-rest w r left at (λ out at. writeAll network cap ws out at))
+      (call (record { answer = refl; output = refl; typed = t }) (write-all-calls ts left (nextPlace r at)))
 
 -- ---- the answers of the steps
 

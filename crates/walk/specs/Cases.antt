@@ -34,6 +34,8 @@ use Rattle.walk.specs.CutRule.{endBy}
 use Rattle.messages.specs.Bogus.{bogusCount}
 use Rattle.walk.specs.Session.{handshakeFields, messageFields, Verdict, peerVerdict, peersVerdict, noVerdict, Content, messageVerdict, handshakeItem, messageItem, frameItem, handshakeAt, messageAt, sessionStep, sessionReading}
 use Rattle.walk.specs.WrittenSession as Writes
+use Rattle.walk.specs.Calls.{Calls}
+use Rattle.walk.specs.CallsLaws.{write-all-calls}
 use Rattle.walk.specs.WrittenSession.{bytesTyped, MessageTyped, Typed, AllTyped, isHandshake, HandshakeFirst, first, Write, writeHandshake, writeMessage, said, writeBytes, after, writeAll}
 
 -- ---- the session of 20 bytes, cut at every byte
@@ -249,12 +251,12 @@ pub all-writes : writeAll Mainnet 64 fiveWrites (replicate 23 7) 0
 unfolding writeAll said writeBytes after handshakeWritten messageWritten written outputAfter asked put messageWhole messageInside valueOf messageAsked entriesOf payloadsWithin countWithin bodyBytes codeOf codeFree unknownCode frameBytes checkedBytes bigEndianBytes every Values.entriesAsked Values.shortStrings Values.utf8Strings Values.fewFeatures Values.lengthsWithin Values.handshakeBytes Values.entryBytes Values.versionBytes Values.addressBytes Values.featureBytes vlqBytes vlqIn utf8 utf8From leadOf leadIn rows rowInside Tables.tablesWhole Tables.wholeRows Tables.rows Tables.entryNumbers Tables.featureNumbers Tables.entryInside Tables.inside Tables.featureInside Tables.entryOf Tables.featureOf addressOf flatMap
 all-writes = refl
 
--- so that the theorem on written sessions speaks of this list
-pub five-proper : AllTyped fiveWrites × HandshakeFirst (writeAll Mainnet 64 fiveWrites (replicate 23 7) 0 .accepted)
+-- so that the theorem on written sessions speaks of calls of these writes
+pub five-proper : Calls Mainnet 64 fiveWrites (replicate 23 7) 0 (writeAll Mainnet 64 fiveWrites (replicate 23 7) 0)
+    × HandshakeFirst (writeAll Mainnet 64 fiveWrites (replicate 23 7) 0 .accepted)
 unfolding Typed MessageTyped bytesTyped every isHandshake
 five-proper =
     let one : Typed (writeHandshake 300 oneEntry 0) = (omega arith, refl) in
-    let two : Typed (writeHandshake 300 oneEntry 1) = (omega arith, refl) in (
-      Writes.more tt (Writes.more one (Writes.more two (Writes.more tt (Writes.more tt Writes.none)))),
-      rw all-writes (first refl (Writes.more refl Writes.none)),
-    )
+    let two : Typed (writeHandshake 300 oneEntry 1) = (omega arith, refl) in
+    let all : AllTyped fiveWrites = Writes.more tt (Writes.more one (Writes.more two (Writes.more tt (Writes.more tt Writes.none)))) in
+    (write-all-calls Mainnet 64 all (replicate 23 7) 0, rw all-writes (first refl (Writes.more refl Writes.none)))

@@ -5,6 +5,7 @@ pub mod Places
 pub mod WrittenSession
 pub mod Calls
 pub mod Theorems
+pub mod Demands
 pub mod WalkLaws
 pub mod CutRuleLaws
 pub mod WrittenLaws
@@ -12,4 +13,6 @@ pub mod CallsLaws
 pub mod SessionLaws
 pub mod PlacesLaws
 pub mod TheoremsProved
+pub mod DemandsProved
 pub mod Cases
+pub mod ValueCases

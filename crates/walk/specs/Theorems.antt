@@ -10,7 +10,7 @@ use Rattle.walk.specs.Walk.{Layer, Item, clean, stopped, Reading}
 use Rattle.walk.specs.CutRule.{CutRule}
 use Rattle.walk.specs.Session.{Content, sessionReading}
 use Rattle.walk.specs.Places.{FieldsPlaced}
-use Rattle.walk.specs.WrittenSession.{Write, writeValue, AllTyped, Done, writeAll, sessionBytes, HandshakeFirst, itemValues}
+use Rattle.walk.specs.WrittenSession.{Write, writeValue, Done, writeAll, sessionBytes, HandshakeFirst, itemValues}
 use Rattle.walk.specs.Calls.{Calls, StepsFrom}
 
 -- each item starts where the last one ended, the first at a place
@@ -35,21 +35,20 @@ module _ (network : Network) (cap : ℕ) where
   abbrev pub CallsAreWrites : Type 0
   CallsAreWrites = (ws : List Write) (out : List ℕ) (d : Done) → Calls network cap ws out 0 d → d ≡ writeAll network cap ws out 0
 
-  -- Written sessions: the bytes of every list of writes from the start of any output, refused ones included, in which exactly one handshake is
-  -- accepted, before any message is, read as the accepted values, in order, and end cleanly.
+  -- Written sessions: the bytes of every list of calls of our writers from the start of any output, refused ones included, in which exactly one
+  -- handshake is accepted, before any message is, read as the accepted values, in order, and end cleanly.
   abbrev pub ReadsAsWritten : Type 0
   ReadsAsWritten =
-      (ws : List Write) (out : List ℕ) → AllTyped ws → HandshakeFirst (writeAll network cap ws out 0 .accepted)
-      → (itemValues (sessionReading network cap (sessionBytes (writeAll network cap ws out 0)) .items) ≡ map writeValue (writeAll network cap ws out 0 .accepted))
-      × (sessionReading network cap (sessionBytes (writeAll network cap ws out 0)) .ending ≡ clean)
+      (ws : List Write) (out : List ℕ) (d : Done) → Calls network cap ws out 0 d → HandshakeFirst (d .accepted)
+      → (itemValues (sessionReading network cap (sessionBytes d) .items) ≡ map writeValue (d .accepted))
+      × (sessionReading network cap (sessionBytes d) .ending ≡ clean)
 
   -- Two such lists whose written bytes are equal have equal accepted handshakes and messages.
   abbrev pub OneMeaning : Type 0
   OneMeaning =
-      (ws ws′ : List Write) (out out′ : List ℕ) → AllTyped ws → AllTyped ws′
-      → HandshakeFirst (writeAll network cap ws out 0 .accepted) → HandshakeFirst (writeAll network cap ws′ out′ 0 .accepted)
-      → sessionBytes (writeAll network cap ws out 0) ≡ sessionBytes (writeAll network cap ws′ out′ 0)
-      → map writeValue (writeAll network cap ws out 0 .accepted) ≡ map writeValue (writeAll network cap ws′ out′ 0 .accepted)
+      (ws ws′ : List Write) (out out′ : List ℕ) (d d′ : Done) → Calls network cap ws out 0 d → Calls network cap ws′ out′ 0 d′
+      → HandshakeFirst (d .accepted) → HandshakeFirst (d′ .accepted)
+      → sessionBytes d ≡ sessionBytes d′ → map writeValue (d .accepted) ≡ map writeValue (d′ .accepted)
 
   -- Every reading ends in a clean end or a stop; its items follow one another from 0 on; there is at most one for each eight bytes.
   abbrev pub Ends : Type 0

@@ -8,7 +8,7 @@ use Rattle.walk.specs.Theorems.{StepsAreReading, CutAnywhere, PlacesHold
 use Rattle.walk.specs.WalkLaws.{walks, walk-ends, walk-chained, walk-room}
 use Rattle.walk.specs.CutRuleLaws.{cut-rule}
 use Rattle.walk.specs.WrittenLaws.{written-reads, written-once}
-use Rattle.walk.specs.CallsLaws.{steps-read, read-steps, calls-write-all}
+use Rattle.walk.specs.CallsLaws.{steps-read, read-steps, calls-write-all, calls-typed}
 use Rattle.walk.specs.SessionLaws.{session-readers, session-writers}
 use Rattle.walk.specs.PlacesLaws.{items-placed}
 
@@ -27,10 +27,15 @@ module _ (network : Network) (cap : ℕ) where
   calls-are-writes ws out d calls = calls-write-all network cap calls
 
   pub reads-as-written : ReadsAsWritten network cap
-  reads-as-written = written-reads network cap 8 (session-readers network cap) (session-writers network cap)
+  reads-as-written ws out d calls =
+      rw (calls-write-all network cap calls)
+      (written-reads network cap 8 (session-readers network cap) (session-writers network cap) ws out (calls-typed network cap calls))
 
   pub one-meaning : OneMeaning network cap
-  one-meaning = written-once network cap 8 (session-readers network cap) (session-writers network cap)
+  one-meaning ws ws′ out out′ d d′ calls calls′ =
+      rw (calls-write-all network cap calls, calls-write-all network cap calls′)
+      (written-once network cap 8 (session-readers network cap) (session-writers network cap) ws ws′ out out′ (calls-typed network cap calls)
+      (calls-typed network cap calls′))
 
   pub ends : Ends network cap
   unfolding sessionReading reading

@@ -40,7 +40,8 @@ unfoldable pub fieldsValue : Fields → Value
 fieldsValue (handshakeFields h) = handshakeOf (handshakeValue h)
 fieldsValue (messageFields code start m) = messageOf (messageValue code m)
 
--- ---- the numbers of a call are in the range of their types: a u8, u16, u32 or u64
+-- ---- what the types of a call's arguments say of the numbers that a reading gives back: a timestamp is a u64, an address and its port are of
+-- their widths, and a lent buffer is of bytes. Of the other numbers nothing needs to be said: the writers test them, or write them as they are
 
 unfoldable pub bytesTyped : List ℕ → Bool
 bytesTyped l = every (λ b. ltb b 256) l
@@ -59,6 +60,8 @@ Typed (writeHandshake timestamp l k) = (timestamp < 2 ^ 64) × (bytesTyped (l .b
 Typed (writeBuilt c) = (c .timestamp < 2 ^ 64) × AddressTyped (c .address)
 Typed (writeMessage w) = MessageTyped w
 
+-- `Typed` of each write of a list. No theorem asks it: a call has it of its write (`Calls`, from the writers' contracts), and the laws about `writeAll`,
+-- which is told writes and no calls, ask it in its place
 pub data AllTyped : List Write → Type 0 where
   none : AllTyped []
   more : {w : Write} {ws : List Write} → Typed w → AllTyped ws → AllTyped (w ∷ ws)

@@ -1,6 +1,6 @@
 -- The contract of each writer, as the code states it, says that a call of it is a write (walk/specs/Calls.antt): `Post` is the contract of a function,
--- of the lifetimes κs, what it was given, what it returned and what it left. With `CallsAreWrites` (walk/specs/Theorems.antt), calls one after the other leave what
--- `writeAll` says.
+-- of the lifetimes κs, what it was given, what it returned and what it left. That a call's numbers are in the range of their types is part of these
+-- contracts where a reading rests on it, so that the theorems on written sessions (walk/specs/Theorems.antt) hold of every list of calls.
 use Prim.Native.Nat.{ℕ}
 use mathlib.Core.Path.{_≡_}
 use denote.Ref.{now}
@@ -39,17 +39,17 @@ module _ (network : Network) (cap : ℕ) where
   pub handshake-called : (κs : Lfts 4) (out : _) (at timestamp : ℕ) (entries features buffer : _) (k : ℕ) (r left : _)
       → write_handshake.Post κs (out, (at, (timestamp, (entries, (features, (buffer, (k, tt))))))) r left
       → Called network cap (writeHandshake timestamp (lent (now entries) (now features) (now buffer)) k) (now out) at r (now (left .0))
-  handshake-called κs out at timestamp entries features buffer k r left c = called-handshake network cap _ _ _ (c .0) (c .1)
+  handshake-called κs out at timestamp entries features buffer k r left c = called-handshake network cap _ _ _ (c .0) (c .1 .0) (c .1 .1)
 
   pub built-called : (κs : Lfts 3) (out : _) (at : ℕ) (config agent name : _) (r left : _)
       → build.Post κs (out, (at, (config, (agent, (name, tt))))) r left
       → Called network cap (writeBuilt (configOf config (now agent) (now name))) (now out) at r (now (left .0))
-  built-called κs out at config agent name r left c = called-built network cap _ (c .0) (c .1)
+  built-called κs out at config agent name r left c = called-built network cap _ (c .0) (c .1 .0) (c .1 .1)
 
   pub peers-called : (κs : Lfts 4) (out : _) (at : ℕ) (entries features buffer : _) (r left : _)
       → write_peers.Post κs (out, (at, (network, (cap, (entries, (features, (buffer, tt))))))) r left
       → Called network cap (writeMessage (writePeers (lent (now entries) (now features) (now buffer)))) (now out) at r (now (left .0))
-  peers-called κs out at entries features buffer r left c = called-peers network cap _ (c .0) (c .1)
+  peers-called κs out at entries features buffer r left c = called-peers network cap _ (c .0) (c .1 .0) (c .1 .1)
 
   pub get-peers-called : (κs : Lfts 1) (out : _) (at : ℕ) (r left : _)
       → write_get_peers.Post κs (out, (at, (network, tt))) r left

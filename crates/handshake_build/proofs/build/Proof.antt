@@ -8,6 +8,7 @@ use Rattle.handshake.specs.Value.{handshakeBytes, entriesAsked}
 use Rattle.handshake.specs.Writes.{built, builtWritten}
 use Rattle.handshake_build.specs.Parts.{configOf, builtSaid}
 use Rattle.handshake_build.specs.PartsLaws.{build-ready}
+use Rattle.handshake_build.proofs.TypedLaws.{config-typed}
 use Rattle.handshake_build.proofs.build.Statement.{statement}
 use Rattle.handshake_build.proofs.build.Tie as tie
 
@@ -28,7 +29,8 @@ returns c =
     let c′ = configOf (a .config) (now (a .agent)) (now (a .name)) in
     let qs = entriesAsked (built c′ .entry ∷ []) in
     let bytes = handshakeBytes (built c′) in
-    stored [] qs _ _ bytes (c .before .before .before .before .before .before .ask-build .ensures) (c .before .before .before .before .enum-told .given .1) (record { end = refl; bytes = c .before .before .put-build .ensures })
+    let w = stored [] qs _ _ bytes (c .before .before .before .before .before .before .ask-build .ensures) (c .before .before .before .before .enum-told .given .1) (record { end = refl; bytes = c .before .before .put-build .ensures }) in
+    (w .0, (w .1, config-typed (a .config) _ (c .before .before .before .before .before .before .before .before .before .before .good .1 .1 .0)))
 
 returns-2 : tie.Need-returns-2
 unfolding builtSaid builtWritten
@@ -37,7 +39,8 @@ returns-2 c =
     let c′ = configOf (a .config) (now (a .agent)) (now (a .name)) in
     let qs = entriesAsked (built c′ .entry ∷ []) in
     let bytes = handshakeBytes (built c′) in
-    kept [] qs _ _ bytes (c .before .before .ask-build .ensures) (c .enum-told2 .given .1)
+    let w = kept [] qs _ _ bytes (c .before .before .ask-build .ensures) (c .enum-told2 .given .1) in
+    (w .0, (w .1, config-typed (a .config) _ (c .before .before .before .before .before .before .good .1 .1 .0)))
 
 pub build-spec : {M : Type 1} → statement M
 build-spec =

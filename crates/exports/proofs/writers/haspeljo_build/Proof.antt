@@ -14,7 +14,8 @@ returns c =
     let blocks : toZ w32 (ofZ w32 (a .blocks)) ≡ a .blocks = search needs in
     let session : toZ w64 (ofZ w64 (a .session)) ≡ a .session = search needs in
     let s = made-same (a .statetype) (a .blocks) (a .timestamp) (a .session) (c .before .before .before .before .before .before .before .before .before .before .before .before .network-of .ensures) (c .before .before .before .before .before .before .before .before .before .before .before .mode-of .ensures) (c .before .before .before .before .before .before .before .before .before .before .is-set .ensures) (c .before .before .before .before .before .before .before .before .before .new .ensures) (c .before .before .before .before .before .before .before .before .address-from .ensures) blocks session in
-    writer-to _ _ _ _ (build-same s _ _ _ _ (c .before .before .before .before .before .before .build .ensures)) (c .before .before .end .given .1)
+    let w = c .before .before .before .before .before .before .build .ensures in
+    writer-to _ _ _ _ (build-same s _ _ _ _ (w .0, w .1 .0)) (c .before .before .end .given .1)
 
 returns-2 : tie.Need-returns-2
 returns-2 c =
@@ -22,7 +23,8 @@ returns-2 c =
     let blocks : toZ w32 (ofZ w32 (a .blocks)) ≡ a .blocks = search needs in
     let session : toZ w64 (ofZ w64 (a .session)) ≡ a .session = search needs in
     let s = made-same (a .statetype) (a .blocks) (a .timestamp) (a .session) (c .before .before .before .before .before .before .before .before .before .before .before .network-of .ensures) (c .before .before .before .before .before .before .before .before .before .before .mode-of .ensures) (c .before .before .before .before .before .before .before .before .before .is-set .ensures) (c .before .before .before .before .before .before .before .before .new .ensures) (c .before .before .before .before .before .before .before .address-from .ensures) blocks session in
-    writer-refused _ _ _ _ (build-same s _ _ _ _ (c .before .before .before .before .before .build .ensures)) (c .before .m .given .1)
+    let w = c .before .before .before .before .before .build .ensures in
+    writer-refused _ _ _ _ (build-same s _ _ _ _ (w .0, w .1 .0)) (c .before .m .given .1)
 
 pub haspeljo-build-spec : {M : Type 1} → statement M
 haspeljo-build-spec =

@@ -5,10 +5,14 @@ use Rattle.exports.proofs.writers.haspeljo_write_peers.Statement.{state
 use Rattle.exports.proofs.writers.haspeljo_write_peers.Tie as tie
 
 returns : tie.Need-returns
-returns c = writer-to _ _ _ _ (rw (c .before .before .before .before .before .before .before .network-of .ensures) at (c .before .before .before .before .before .before .write-peers .ensures)) (c .before .before .end .given .1)
+returns c =
+    let w = rw (c .before .before .before .before .before .before .before .network-of .ensures) at (c .before .before .before .before .before .before .write-peers .ensures) in
+    writer-to _ _ _ _ (w .0, w .1 .0) (c .before .before .end .given .1)
 
 returns-2 : tie.Need-returns-2
-returns-2 c = writer-refused _ _ _ _ (rw (c .before .before .before .before .before .before .network-of .ensures) at (c .before .before .before .before .before .write-peers .ensures)) (c .before .m .given .1)
+returns-2 c =
+    let w = rw (c .before .before .before .before .before .before .network-of .ensures) at (c .before .before .before .before .before .write-peers .ensures) in
+    writer-refused _ _ _ _ (w .0, w .1 .0) (c .before .m .given .1)
 
 pub haspeljo-write-peers-spec : {M : Type 1} → statement M
 haspeljo-write-peers-spec =

@@ -1,0 +1,169 @@
+-- The demands, from the theorems: the cut rule's parts in other words, and written sessions by their accepted handshake and messages.
+use Prim.Native.Nat.{ℕ, _+_, _≤_}
+use native.Mathlib.Omega.{arith}
+use mathlib.Core.Bool.{Bool, true, false, _||_}
+use mathlib.Core.List.{List, [], _∷_, _++_, map}
+use mathlib.Core.Logic.{_⊎_, inl, inr, ⊎-elim}
+use mathlib.Core.Path.{_≡_, refl, sym, ap, _∙_}
+use lib.Dec.{T, eqb, eqb→eq}
+use lib.ListN.{length}
+use borrow.Author.Tests.{le-leb, lt-leb}
+use Rattle.wire.specs.Numbers.{lt-or-ge}
+use Rattle.wire.specs.Output.{outputAfter}
+use Rattle.wire.specs.OutputLaws.{length-put, put-before, put-here, put-after}
+use Rattle.types.specs.declared.Network.{Network}
+use Rattle.messages.specs.Value.{MessageValue}
+use Rattle.messages.specs.Writes.{MessageWrite, valueOf}
+use Rattle.walk.specs.Walk as Walk
+use Rattle.walk.specs.Walk.{Layer, Item, isCut}
+use Rattle.walk.specs.Session.{Content}
+use Rattle.walk.specs.CutRule.{endBy, lastEnd, EndsAt, here, there}
+use Rattle.walk.specs.WrittenSession as Session
+use Rattle.walk.specs.WrittenSession.{Write, writeHandshake, writeBuilt, writeMessage, Value, handshakeOf, messageOf, writeValue, writeBytes, sessionBytes, isHandshake, OnlyMessages, HandshakeFirst, first, itemValues}
+use Rattle.walk.specs.SessionLaws.{session-writers}
+use Rattle.walk.specs.Demands.{Exactly, none, with, without, AnEnd, IsCut, OfHandshake, Answered, RefusedLeaves, ChangesItsBytes, CutItems, CutCleanly, CutStops, CutOwnStop, WritesRead, EqualBytes}
+use Rattle.walk.specs.TheoremsProved.{cut-anywhere, reads-as-written, one-meaning, ends}
+
+-- ---- the cut rule's words
+
+exactly-by : (k : ℕ) (is : List (Item Content)) → Exactly (λ i. i .end ≤ k) (endBy k is) is
+unfolding endBy
+exactly-by k [] = none
+exactly-by k (i ∷ is) =
+    ⊎-elim (λ h. let past : ¬ (i .end ≤ k) = λ g. omega arith in rw (lt-leb (i .end) k h) (without past (exactly-by k is)))
+    (λ h. rw (le-leb (i .end) k h) (with h (exactly-by k is)))
+    (lt-or-ge k (i .end))
+
+an-end : {k : ℕ} {is : List (Item Content)} → EndsAt k is → AnEnd k is
+an-end (here {i = i} {is = is} e) = ([], i, is, refl, e)
+an-end (there {i = j} s) =
+    let r = an-end s in
+    (j ∷ r .0, r .1, r .2, ap (λ (l : List (Item Content)). j ∷ l) (r .3), r .4)
+
+ends-at : (k : ℕ) (before : List (Item Content)) (i : Item Content) (after : List (Item Content)) → i .end ≡ k → EndsAt k (before ++ (i ∷ after))
+ends-at k [] i after e = here e
+ends-at k (j ∷ before) i after e = there (ends-at k before i after e)
+
+end-at : (k : ℕ) (is : List (Item Content)) → AnEnd k is → EndsAt k is
+end-at k is (before, i, after, e, f) = rw e (ends-at k before i after f)
+
+last-end : (at : ℕ) (before : List (Item Content)) (i : Item Content) → lastEnd at (before ++ (i ∷ [])) ≡ i .end
+unfolding lastEnd
+last-end at [] i = refl
+last-end at (j ∷ before) i = last-end (j .end) before i
+
+no-items : lastEnd {F = Content} 0 [] ≡ 0
+unfolding lastEnd
+no-items = refl
+
+one-of : (a b : Bool) → T (a || b) → T a ⊎ T b
+one-of true b t = inl tt
+one-of false b t = inr t
+
+is-cut : (layer : Layer) (n : ℕ) → T (isCut layer n) → IsCut layer n
+unfolding isCut
+is-cut Walk.handshake n t = inl (refl, eqb→eq n 1 t)
+is-cut Walk.frame n t = inr (refl, ⊎-elim (λ a. inl (eqb→eq n 5 a)) (λ b. inr (eqb→eq n 8 b)) (one-of (eqb n 5) (eqb n 8) t))
+is-cut Walk.body n t = absurd t
+
+-- ---- the lists of accepted writes
+
+only-messages : (ms : List MessageWrite) → OnlyMessages (map writeMessage ms)
+unfolding isHandshake
+only-messages [] = Session.none
+only-messages (m ∷ ms) = Session.more refl (only-messages ms)
+
+of-handshake : (w : Write) → OfHandshake w → isHandshake w ≡ true
+unfolding isHandshake
+of-handshake (writeHandshake timestamp l k) h = refl
+of-handshake (writeBuilt c) h = refl
+of-handshake (writeMessage m) h = absurd (h m refl)
+
+message-values : (ms : List MessageWrite) → map writeValue (map writeMessage ms) ≡ map (λ m. messageOf (valueOf m)) ms
+unfolding writeValue
+message-values [] = refl
+message-values (m ∷ ms) = ap (λ (l : List Value). messageOf (valueOf m) ∷ l) (message-values ms)
+
+handshake-first : (h : Write) (ms : List MessageWrite) → OfHandshake h → HandshakeFirst (h ∷ map writeMessage ms)
+handshake-first h ms o = first (of-handshake h o) (only-messages ms)
+
+-- the messages among values
+messagesOf : List Value → List MessageValue
+messagesOf [] = []
+messagesOf (handshakeOf v ∷ vs) = messagesOf vs
+messagesOf (messageOf v ∷ vs) = v ∷ messagesOf vs
+
+messages-of : (ms : List MessageWrite) → messagesOf (map writeValue (map writeMessage ms)) ≡ map valueOf ms
+unfolding messagesOf writeValue
+messages-of [] = refl
+messages-of (m ∷ ms) = ap (λ (l : List MessageValue). valueOf m ∷ l) (messages-of ms)
+
+messages-after : (w : Write) → OfHandshake w → (ms : List MessageWrite) → messagesOf (map writeValue (w ∷ map writeMessage ms)) ≡ map valueOf ms
+unfolding messagesOf writeValue
+messages-after (writeHandshake timestamp l k) h ms = messages-of ms
+messages-after (writeBuilt c) h ms = messages-of ms
+messages-after (writeMessage m) h ms = absurd (h m refl)
+
+-- ---- the demands
+
+module _ (network : Network) (cap : ℕ) where
+  pub answered : Answered network cap
+  answered s = ends network cap s .0
+
+  pub refused-leaves : RefusedLeaves network cap
+  unfolding outputAfter
+  refused-leaves w out left at n c = c .output
+
+  pub changes-its-bytes : ChangesItsBytes network cap
+  unfolding outputAfter
+  changes-its-bytes w out left at end c =
+      let bs : List ℕ = writeBytes network cap w in
+      let e = session-writers network cap .ends w out at end (sym (c .answer)) in
+      let room : at + length bs ≤ length out = omega (arith, e .0, e .1) in
+      rw (c .output, e .0) (
+        refl,
+        room,
+        length-put out at bs,
+        put-before out at bs room,
+        put-here out at bs room,
+        put-after out at bs room,
+      )
+
+  pub cut-items : CutItems network cap
+  cut-items s k h = rw (cut-anywhere network cap s k h .items) (exactly-by k _)
+
+  pub cut-cleanly : CutCleanly network cap
+  cut-cleanly s k h =
+      let c = cut-anywhere network cap s k h .cleanly in
+      (λ e. an-end (c .0 e), λ a. c .1 (end-at k _ a))
+
+  pub cut-stops : CutStops network cap
+  cut-stops s k h not =
+      let c = cut-anywhere network cap s k h in
+      let r = c .stops (λ e. not (an-end e)) in (
+        r .0,
+        r .1,
+        _,
+        r .2,
+        λ before last e. ap (lastEnd 0) (sym (c .items) ∙ e) ∙ last-end 0 before last,
+        λ e. ap (lastEnd 0) (sym (c .items) ∙ e) ∙ no-items,
+      )
+
+  pub cut-own-stop : CutOwnStop network cap
+  cut-own-stop s k h layer n at e not = cut-anywhere network cap s k h .own layer n at e (λ t. not (is-cut layer n t))
+
+  pub writes-read : WritesRead network cap
+  unfolding itemValues sessionBytes
+  writes-read ws out d calls h ms o e =
+      let f : HandshakeFirst (d .accepted) = rw e (handshake-first h ms o) in
+      let r = reads-as-written network cap ws out d calls f in
+      (r .0 ∙ ap (map writeValue) e ∙ ap (λ (l : List Value). writeValue h ∷ l) (message-values ms), r .1)
+
+  pub equal-bytes : EqualBytes network cap
+  unfolding sessionBytes
+  equal-bytes ws ws′ out out′ d d′ calls calls′ h h′ ms ms′ o o′ e e′ b =
+      let f : HandshakeFirst (d .accepted) = rw e (handshake-first h ms o) in
+      let f′ : HandshakeFirst (d′ .accepted) = rw e′ (handshake-first h′ ms′ o′) in
+      let m : map writeValue (h ∷ map writeMessage ms) ≡ map writeValue (h′ ∷ map writeMessage ms′) =
+      sym (ap (map writeValue) e) ∙ one-meaning network cap ws ws′ out out′ d d′ calls calls′ f f′ b ∙ ap (map writeValue) e′ in
+      (cc, sym (messages-after h o ms) ∙ ap messagesOf m ∙ messages-after h′ o′ ms′)

@@ -1,0 +1,155 @@
+-- The values of both handshakes and all seven messages at the extremes of their types, written out: what each write has by its arguments, and what a
+-- reading of its bytes says. One table, and two lemmas cover it.
+use Prim.Native.Nat.{ℕ}
+use mathlib.Core.Bool.{true}
+use mathlib.Core.List.{List, [], _∷_, _++_, map, flatMap}
+use mathlib.Core.Path.{_≡_, refl}
+use lib.IntN.{negsuc}
+use lib.ListN.{replicate}
+use Rattle.wire.specs.Bytes.{bigEndian, bigEndianFrom}
+use Rattle.wire.specs.Reader.{got, fold, listOf}
+use Rattle.utf8.specs.Utf8.{rows, leadIn, leadOf, utf8From, utf8}
+use Rattle.vlq.specs.Vlq.{groups, vlq, vlqLength, vlqIn, vlqBytes}
+use Rattle.vlq.specs.ShortString.{string, shortString}
+use Rattle.zigzag.specs.Zigzag.{zigzagEncode}
+use Rattle.types.specs.declared.Address.{Address}
+use Rattle.types.specs.declared.Address.the-variants.{V4, V6}
+use Rattle.types.specs.declared.Network.the-variants.{Mainnet}
+use Rattle.types.specs.declared.ProxyMode.the-variants.{Light}
+use Rattle.types.specs.declared.Version.{Version}
+use Rattle.handshake.specs.Entry.{version, addressOf, address, addressIf, feature, entry, handshake}
+use Rattle.handshake.specs.Tables as Tables
+use Rattle.handshake.specs.Tables.{Lent, lent}
+use Rattle.handshake.specs.Value.{FeatureValue, EntryValue, featureValue, entryValue, handshakeValue}
+use Rattle.handshake.specs.Writes.{Config, nipopow, modeFeature, sessionFeature, built}
+use Rattle.messages.specs.Message.{count, header, ids, total, payloadAfter, payload, payloads, peersBody, whole, message}
+use Rattle.messages.specs.Value.{getPeersValue, peersValue, modifierRequestValue, modifierResponseValue, invValue, syncInfoValue, unknownValue, payloadValue, messageValue}
+use Rattle.messages.specs.Writes.{idsOf, payloadOf, writeGetPeers, writePeers, writeModifierRequest, writeModifierResponse, writeInv, writeSyncInfo, writeUnknown, valueOf}
+use Rattle.walk.specs.Walk.{Opened, opened, refusedIn}
+use Rattle.walk.specs.Session.{Content, handshakeItem, messageItem, frameItem, handshakeAt}
+use Rattle.walk.specs.WrittenSession.{Write, writeHandshake, writeBuilt, writeMessage, Value, handshakeOf, messageOf, writeValue, fieldsValue}
+
+-- ---- numbers and bytes at the end of their ranges
+
+-- 2^64 - 1, 2^32 - 1 and 2^16 - 1
+abbrev maxU64 : ℕ
+maxU64 = 18446744073709551615
+
+abbrev maxU32 : ℕ
+maxU32 = 4294967295
+
+abbrev maxU16 : ℕ
+maxU16 = 65535
+
+-- U+10FFFF
+abbrev lastChar : List ℕ
+lastChar = 0xf4 ∷ 0x8f ∷ 0xbf ∷ 0xbf ∷ []
+
+abbrev ones : ℕ → List ℕ
+ones n = replicate n 255
+
+abbrev lastVersion : Version
+lastVersion = record { major = 255; minor = 255; patch = 255 }
+
+-- their VLQs
+abbrev vlqU64 : List ℕ
+vlqU64 = ones 9 ++ (1 ∷ [])
+
+abbrev vlqU32 : List ℕ
+vlqU32 = ones 4 ++ (0x0f ∷ [])
+
+abbrev vlqU16 : List ℕ
+vlqU16 = ones 2 ++ (0x03 ∷ [])
+
+-- ---- an entry: by its tables, by value, and its bytes
+
+abbrev tables : Lent
+tables = lent (0 ∷ 4 ∷ 255 ∷ 255 ∷ 255 ∷ 0 ∷ 4 ∷ 20 ∷ 4 ∷ maxU16 ∷ 0 ∷ 1 ∷ []) (255 ∷ 4 ∷ 2 ∷ []) (lastChar ++ ones 32)
+
+abbrev entryWith : Address → List FeatureValue → EntryValue
+entryWith address features = record { agent = lastChar; version = lastVersion; name = lastChar; address = address; features = features }
+
+abbrev tableEntry : EntryValue
+tableEntry = entryWith (V6 maxU64 maxU64 maxU16) (record { id = 255; body = ones 2 } ∷ [])
+
+-- agent, version and name
+abbrev headBytes : List ℕ
+headBytes = 4 ∷ (lastChar ++ (ones 3 ++ (4 ∷ lastChar)))
+
+abbrev tableBytes : List ℕ
+tableBytes = headBytes ++ (1 ∷ 20 ∷ (ones 16 ++ (vlqU16 ++ (1 ∷ 255 ∷ 2 ∷ ones 2))))
+
+-- ---- what `build` is given: Light, -2^31 blocks to keep, the session id -2^63
+
+abbrev config : Config
+config =
+    record {
+      network = Mainnet;
+      mode = Light;
+      stateType = 255;
+      verifying = true;
+      blocksToKeep = negsuc 2147483647;
+      agent = lastChar;
+      version = lastVersion;
+      name = lastChar;
+      address = V4 maxU32 maxU16;
+      timestamp = maxU64;
+      sessionId = negsuc 9223372036854775807;
+    }
+
+abbrev modeBody : List ℕ
+modeBody = 255 ∷ 1 ∷ 1 ∷ 2 ∷ vlqU32
+
+abbrev sessionBody : List ℕ
+sessionBody = 1 ∷ 0 ∷ 2 ∷ 4 ∷ vlqU64
+
+abbrev builtEntry : EntryValue
+builtEntry = entryWith (V4 maxU32 maxU16) (record { id = 16; body = modeBody } ∷ record { id = 3; body = sessionBody } ∷ [])
+
+abbrev builtBytes : List ℕ
+builtBytes = headBytes ++ (1 ∷ 8 ∷ (ones 4 ++ (vlqU16 ++ (2 ∷ 16 ∷ 9 ∷ (modeBody ++ (3 ∷ 14 ∷ sessionBody))))))
+
+-- ---- a write, its value, and its bytes as they are opened
+
+pub record Case : Type 0 where
+  pub write : Write
+  pub value : Value
+  pub item : Opened Content
+
+abbrev ofHandshake : Write → EntryValue → List ℕ → Case
+ofHandshake write entry bytes =
+    record { write = write; value = handshakeOf (record { timestamp = maxU64; entry = entry }); item = handshakeAt Mainnet (vlqU64 ++ bytes) }
+
+-- a frame of a code with a body
+abbrev ofMessage : Write → Value → ℕ → List ℕ → Case
+ofMessage write value code body =
+    record { write = write; value = value; item = frameItem Mainnet 64 (got (record { code = code; body = record { start = 24; bytes = body } }) 100) }
+
+unfoldable pub cases : List Case
+cases =
+    ofHandshake (writeHandshake maxU64 tables 0) tableEntry tableBytes
+    ∷ ofHandshake (writeBuilt config) builtEntry builtBytes
+    ∷ ofMessage (writeMessage writeGetPeers) (messageOf getPeersValue) 1 []
+    ∷ ofMessage (writeMessage (writePeers tables)) (messageOf (peersValue (tableEntry ∷ []))) 2 (1 ∷ tableBytes)
+    ∷ ofMessage (writeMessage (writeModifierRequest 255 (4 ∷ []) (tables .buffer))) (messageOf (modifierRequestValue 255 (ones 32 ∷ []))) 22
+    (255 ∷ 1 ∷ ones 32)
+    ∷ ofMessage (writeMessage (writeModifierResponse 255 (4 ∷ 0 ∷ 5 ∷ []) (tables .buffer)))
+    (messageOf (modifierResponseValue 255 (record { id = ones 32; body = lastChar ++ (255 ∷ []) } ∷ []))) 33
+    (255 ∷ 1 ∷ (ones 32 ++ (5 ∷ (lastChar ++ (255 ∷ [])))))
+    ∷ ofMessage (writeMessage (writeInv 255 (4 ∷ []) (tables .buffer))) (messageOf (invValue 255 (ones 32 ∷ []))) 55 (255 ∷ 1 ∷ ones 32)
+    ∷ ofMessage (writeMessage (writeSyncInfo (ones 3))) (messageOf (syncInfoValue (ones 3))) 65 (ones 3)
+    ∷ ofMessage (writeMessage (writeUnknown 255 (ones 3))) (messageOf (unknownValue 255 (ones 3))) 255 (ones 3)
+    ∷ []
+
+pub all-written : map (λ (c : Case). writeValue (c .write)) cases ≡ map (λ (c : Case). c .value) cases
+unfolding cases writeValue built modeFeature sessionFeature nipopow zigzagEncode vlqBytes vlqIn valueOf idsOf payloadOf Tables.rows Tables.entriesOf Tables.entryOf Tables.featureOf addressOf bigEndian bigEndianFrom
+all-written = refl
+
+-- the value of an item, if it is one
+abbrev itemValue : Opened Content → List Value
+itemValue (opened c end) = fieldsValue (c .fields) ∷ []
+itemValue (refusedIn layer n) = []
+
+pub all-read : flatMap (λ (c : Case). itemValue (c .item)) cases ≡ map (λ (c : Case). c .value) cases
+unfolding cases fieldsValue flatMap handshakeAt handshakeItem frameItem messageItem handshake entry version addressIf address addressOf feature shortString string utf8 utf8From leadOf leadIn rows vlq vlqLength groups listOf fold bigEndian bigEndianFrom message count header ids total payloadAfter payload payloads peersBody whole featureValue entryValue handshakeValue payloadValue messageValue
+all-read = refl
