@@ -6,6 +6,7 @@ pub mod Calls
 pub mod Theorems
 pub mod WalkLaws
 pub mod CutRuleLaws
+pub mod GrowsLaws
 pub mod WrittenLaws
 pub mod CallsLaws
 pub mod SessionLaws
