@@ -14,6 +14,7 @@ use Rattle.wire.specs.ReaderLaws.{PartAt, part-at, length-part}
 use Rattle.wire.specs.ListOfLaws.{Listed, end, next, listed, Indexed}
 use Rattle.vlq.specs.Vlq.{vlqLength}
 use Rattle.vlq.specs.ShortString.{shortString}
+use Rattle.vlq.specs.ShortStringLaws.{shortString-start}
 use Rattle.types.specs.declared.Version.{Version}
 use Rattle.types.specs.declared.Address.{Address}
 use Rattle.handshake.specs.Entry.{version, addressIf, EntryFeature, feature, Entry, entry}
@@ -86,6 +87,23 @@ module _ (s : List ℕ) where
       features-then (headOnly agent v name address) n)))))
 
 -- ---- where things stand
+
+-- the agent stands after its length byte, which is an entry's first
+head-agent : (s : List ℕ) (at : ℕ) {h : EntryHead} {e : ℕ} → head s at ≡ got h e → h .agent .start ≡ at + 1
+unfolding head declaredAddress
+head-agent s at q =
+    let a = bind-got (shortString s at) (versionOnly s) q in
+    let b = bind-got (version s (a .next)) (nameOnly s (a .value)) (a .rest) in
+    let c = bind-got (shortString s (b .next)) (addressOnly s (a .value) (b .value)) (b .rest) in
+    let d =
+    bind-got (bind (byte s (c .next)) (λ flag n. addressIf flag s n)) (λ address m. got (headOnly s (a .value) (b .value) (c .value) address) m) (c .rest) in
+    ap (λ (h : EntryHead). h .agent .start) (sym (value-of (d .rest))) ∙ shortString-start s at (a .answer)
+
+pub entry-agent : (s : List ℕ) (at : ℕ) {e : Entry} {next : ℕ} → entry s at ≡ got e next → e .agent .start ≡ at + 1
+entry-agent s at q =
+    let a = bind-got (head s at) (λ h n. bind (features s n) (λ l m. got (entryOf h l) m)) (sym (entry-parts s at) ∙ q) in
+    let b = bind-got (features s (a .next)) (λ l m. got (entryOf (a .value) l) m) (a .rest) in
+    ap (λ (e : Entry). e .agent .start) (sym (value-of (b .rest))) ∙ head-agent s at (a .answer)
 
 -- a feature's body is in s where its start says, and the next place is its end
 pub record Stands (s : List ℕ) (f : EntryFeature) (next : ℕ) : Type 0 where

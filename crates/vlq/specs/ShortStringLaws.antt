@@ -1,13 +1,14 @@
--- Laws of short strings: the cut law, that what is written is read back, and the string's answers from tests.
+-- Laws of short strings: the cut law, where a string stands, that what is written is read back, and the string's answers from tests.
 use Prim.Native.Nat.{ℕ, _+_, _-_, _≤_, _<_}
 use native.Mathlib.Omega.{arith}
 use mathlib.Core.Bool.{Bool, true, false, cond}
 use mathlib.Core.List.{List, [], _∷_}
-use mathlib.Core.Path.{_≡_, ap, _∙_}
+use mathlib.Core.Path.{_≡_, sym, ap, _∙_}
 use lib.Dec.{T}
-use lib.ListN.{length, take, drop}
-use Rattle.wire.specs.Reader.{got, refused, partOf, mapAnswer}
-use Rattle.wire.specs.ReaderLaws.{part-got, part-missing, part-outside, length-part}
+use lib.ListN.{length, getD, take, drop}
+use Rattle.wire.specs.Reader.{got, refused, byte, Segment, part, partOf, mapAnswer}
+use Rattle.wire.specs.AnswerLaws.{no-answer, value-of, bind-got}
+use Rattle.wire.specs.ReaderLaws.{Taken, field-taken, part-got, part-missing, part-outside, length-part, part-at}
 use Rattle.wire.specs.Stable.{Stable}
 use Rattle.wire.specs.StableLaws.{stable-then, stable-guard, stable-byte, stable-part}
 use Rattle.wire.specs.ReadsBack.{ReadsBack}
@@ -39,6 +40,19 @@ module _ {isCut : ℕ → Bool} (one : T (isCut 1)) where
   pub stable-shortString : Stable isCut shortString
   unfolding shortString
   stable-shortString = stable-then (stable-byte one) stable-string
+
+-- its bytes stand after its length byte
+pub shortString-start : (s : List ℕ) (at : ℕ) {g : Segment} {e : ℕ} → shortString s at ≡ got g e → g .start ≡ at + 1
+unfolding shortString string
+shortString-start s at {g} {e} q =
+    let a = bind-got (byte s at) (λ n m. string n s m) q in
+    let b = bind-got (part (a .value) s (a .next)) (λ h m. cond (utf8 (h .bytes)) (got h m) (refused 4)) (a .rest) in
+    let t : Taken 1 _ byte = field-taken 1 1 (λ s at. getD s at 0) in
+    omega (arith, t .read s at (a .value) (a .next) (a .answer) .2, part-at (a .value) s (a .next) (b .answer) .start, same (utf8 (b .value .bytes)) (b .value) (b .next) (b .rest))
+  where
+    same : (t : Bool) (h : Segment) (m : ℕ) → cond t (got h m) (refused 4) ≡ got g e → g .start ≡ h .start
+    same true h m r = ap (λ (x : Segment). x .start) (sym (value-of r))
+    same false h m r = no-answer r
 
 reads-string : (w : List ℕ) → utf8 w ≡ true → ReadsBack (string (length w)) bytesOf w w
 unfolding string
