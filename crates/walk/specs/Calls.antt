@@ -8,7 +8,7 @@ use Rattle.wire.specs.Output.{outputAfter}
 use Rattle.wire.specs.declared.Written.{Written}
 use Rattle.wire.specs.declared.Written.the-variants.{To, Refused}
 use Rattle.types.specs.declared.Network.{Network}
-use Rattle.walk.specs.Walk.{Layer, Item, item, cleanEnd, stop, clean, stopped, Reading}
+use Rattle.walk.specs.Walk.{Layer, Item, Step, item, cleanEnd, stop, clean, stopped, Reading}
 use Rattle.walk.specs.Session.{Content, sessionStep}
 use Rattle.walk.specs.WrittenSession.{Write, Typed, said, writeBytes, Done}
 
@@ -42,16 +42,19 @@ module _ (network : Network) (cap : ℕ) where
 
 -- ---- steps
 
-module _ (network : Network) (cap : ℕ) where
-  -- the answers of the steps from a place on, each next one at the last item's end: the items, then the clean end or the stop
-  pub data StepsFrom (s : List ℕ) : ℕ → Reading Content → Type 0 where
-    more :
-        {at : ℕ} {i : Item Content} {r : Reading Content}
-        → sessionStep network cap s at ≡ item i
-        → StepsFrom s (i .end) r
-        → StepsFrom s at (record { items = i ∷ r .items; ending = r .ending })
-    over : {at : ℕ} → sessionStep network cap s at ≡ cleanEnd → StepsFrom s at (record { items = []; ending = clean })
-    stops :
-        {at place n : ℕ} {layer : Layer}
-        → sessionStep network cap s at ≡ stop layer n place
-        → StepsFrom s at (record { items = []; ending = stopped layer n place })
+-- the answers of a step from a place on, each next one at the last item's end: items, then the clean end or the stop
+pub data AnswersFrom {F : Type 0} (step : ℕ → Step F) : ℕ → Reading F → Type 0 where
+  more :
+      {at : ℕ} {i : Item F} {r : Reading F}
+      → step at ≡ item i
+      → AnswersFrom step (i .end) r
+      → AnswersFrom step at (record { items = i ∷ r .items; ending = r .ending })
+  over : {at : ℕ} → step at ≡ cleanEnd → AnswersFrom step at (record { items = []; ending = clean })
+  stops :
+      {at place n : ℕ} {layer : Layer}
+      → step at ≡ stop layer n place
+      → AnswersFrom step at (record { items = []; ending = stopped layer n place })
+
+-- the answers of the steps of a session
+abbrev pub StepsFrom : Network → ℕ → List ℕ → ℕ → Reading Content → Type 0
+StepsFrom network cap s = AnswersFrom (sessionStep network cap s)

@@ -5,6 +5,7 @@ use Prim.Native.Nat.{ℕ, _^_, _≤_, _<_}
 use native.Mathlib.Omega.{arith}
 use mathlib.Core.Bool.{true}
 use mathlib.Core.List.{List}
+use mathlib.Core.Logic.{_↔_}
 use mathlib.Core.Path.{_≡_, refl, sym, _∙_}
 use lib.Dec.{ltb}
 use lib.ListN.{length}
@@ -18,14 +19,14 @@ use Rattle.handshake.specs.Tables.{Lent}
 use Rattle.handshake.specs.Writes.{Config, built, builtWritten, handshakeAt, handshakeWritten}
 use Rattle.messages.specs.Writes.{MessageWrite, writeGetPeers, writePeers, writeModifierRequest, writeModifierResponse, writeInv, writeSyncInfo, writeUnknown, valueOf, messageBytes, messageWritten}
 use Rattle.messages.specs.WritesLaws.{any-cap}
-use Rattle.walk.specs.Walk.{item, stop, Reading, stepTo, onward, walk, reading}
-use Rattle.walk.specs.Session.{Content, handshakeAt as handshakeOpened, messageAt, sessionStep, sessionReading}
+use Rattle.walk.specs.Walk.{Step, item, stop, Reading, stepTo, onward, walk}
+use Rattle.walk.specs.Session.{Content, handshakeAt as handshakeOpened, messageAt, sessionStep}
 use Rattle.walk.specs.WalkLaws as WalkLaws
 use Rattle.walk.specs.WalkLaws.{step-end, step-open, Walks, walks, walk-over, walk-stops, walk-goes, step-item, walk-step}
 use Rattle.walk.specs.SessionLaws.{session-readers}
 use Rattle.walk.specs.WrittenSession as Session
 use Rattle.walk.specs.WrittenSession.{Write, writeHandshake, writeBuilt, writeMessage, bytesTyped, MessageTyped, Typed, AllTyped, said, writeBytes, Done, after, writeAll}
-use Rattle.walk.specs.Calls.{nextPlace, withAccepted, Called, Calls, none, call, StepsFrom, more, over, stops}
+use Rattle.walk.specs.Calls.{nextPlace, withAccepted, Called, Calls, none, call, AnswersFrom, more, over, stops, StepsFrom}
 
 -- ---- the contracts as calls
 
@@ -115,6 +116,26 @@ module _ (network : Network) (cap : ℕ) where
 
 -- ---- the answers of the steps
 
+-- there is but one reading that they are
+pub answers-once : {F : Type 0} {step : ℕ → Step F} {at : ℕ} {r w : Reading F} → AnswersFrom step at r → AnswersFrom step at w → r ≡ w
+answers-once {F} {step} (more {i = i} {r = r} q rest) (more {i = j} {r = w} p rest′) =
+    let e : j ≡ i = cc in
+    let b : AnswersFrom step (i .end) w = rw e at rest′ in
+    let d : r ≡ w = answers-once rest b in
+    rw (e, d) refl
+answers-once (more q rest) (over p) = let z : _≡_ {A = ℕ} 0 1 = cc in absurd (omega arith)
+answers-once (more q rest) (stops p) = let z : _≡_ {A = ℕ} 0 1 = cc in absurd (omega arith)
+answers-once (over q) (more p rest) = let z : _≡_ {A = ℕ} 0 1 = cc in absurd (omega arith)
+answers-once (over q) (over p) = refl
+answers-once (over q) (stops p) = let z : _≡_ {A = ℕ} 0 1 = cc in absurd (omega arith)
+answers-once (stops q) (more p rest) = let z : _≡_ {A = ℕ} 0 1 = cc in absurd (omega arith)
+answers-once (stops q) (over p) = let z : _≡_ {A = ℕ} 0 1 = cc in absurd (omega arith)
+answers-once (stops {place = a} {n = m} {layer = l} q) (stops {place = a′} {n = m′} {layer = l′} p) =
+    let e : a ≡ a′ = cc in
+    let f : m ≡ m′ = cc in
+    let g : l ≡ l′ = cc in
+    rw (e, f, g) refl
+
 module _ (network : Network) (cap : ℕ) (s : List ℕ) where
   -- the walk from a place
   abbrev From : ℕ → Reading Content
@@ -127,10 +148,6 @@ module _ (network : Network) (cap : ℕ) (s : List ℕ) where
       rw (walk-step (session-readers network cap) s at h, q, ← steps-walk (b .2) rest)
   steps-walk {at} h (over q) = rw (walk-step (session-readers network cap) s at h, q)
   steps-walk {at} h (stops q) = rw (walk-step (session-readers network cap) s at h, q)
-
-  pub steps-read : (r : Reading Content) → StepsFrom network cap s 0 r → r ≡ sessionReading network cap s
-  unfolding sessionReading reading
-  steps-read r w = steps-walk (omega arith) w
 
   walk-steps : {at : ℕ} → at ≤ length s → Walks (session-readers network cap) s at → StepsFrom network cap s at (From at)
   unfolding sessionStep stepTo
@@ -145,6 +162,6 @@ module _ (network : Network) (cap : ℕ) (s : List ℕ) where
       rw (step-open Content (handshakeOpened network) (messageAt network cap) s at b, q) in
       rw (walk-goes (session-readers network cap) s at f end h b q) (more e (walk-steps l w))
 
-  pub read-steps : (r : Reading Content) → r ≡ sessionReading network cap s → StepsFrom network cap s 0 r
-  unfolding sessionReading reading
-  read-steps r e = rw e (walk-steps (omega arith) (walks (session-readers network cap) s 0 (omega arith)))
+  -- the answers of the steps from a place on are the walk from there, and nothing else is
+  pub steps-from : (at : ℕ) → at ≤ length s → (r : Reading Content) → StepsFrom network cap s at r ↔ (r ≡ From at)
+  steps-from at h r = (steps-walk h, λ e. rw e (walk-steps h (walks (session-readers network cap) s at h)))

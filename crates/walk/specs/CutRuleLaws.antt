@@ -17,11 +17,11 @@ use Rattle.walk.specs.WalkLaws.{Past, OpenedCut, kept, own, short, openA
 -- ---- the items that end by k
 
 module _ {F : Type 0} (k : ℕ) (i : Item F) (is : List (Item F)) where
-  endBy-yes : i .end ≤ k → endBy k (i ∷ is) ≡ i ∷ endBy k is
+  pub endBy-yes : i .end ≤ k → endBy k (i ∷ is) ≡ i ∷ endBy k is
   unfolding endBy
   endBy-yes h = rw (le-leb (i .end) k h)
 
-  endBy-no : k < i .end → endBy k (i ∷ is) ≡ endBy k is
+  pub endBy-no : k < i .end → endBy k (i ∷ is) ≡ endBy k is
   unfolding endBy
   endBy-no h = rw (lt-leb (i .end) k h)
 

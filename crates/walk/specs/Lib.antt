@@ -8,6 +8,7 @@ pub mod Theorems
 pub mod Demands
 pub mod WalkLaws
 pub mod CutRuleLaws
+pub mod GrowsLaws
 pub mod WrittenLaws
 pub mod CallsLaws
 pub mod SessionLaws

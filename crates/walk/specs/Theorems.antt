@@ -1,12 +1,13 @@
 -- What holds of every session, for every network and Peers cap. The statements alone; `TheoremsProved` proves them.
 use Prim.Native.Nat.{ℕ, _*_, _≤_}
-use mathlib.Core.List.{List, [], _∷_, map}
+use mathlib.Core.List.{List, [], _∷_, _++_, map}
 use mathlib.Core.Logic.{_↔_, _⊎_}
 use mathlib.Core.Path.{_≡_}
+use lib.Dec.{T}
 use lib.ListN.{length, take}
 use Rattle.wire.specs.Bytes.{Each}
 use Rattle.types.specs.declared.Network.{Network}
-use Rattle.walk.specs.Walk.{Layer, Item, clean, stopped, Reading}
+use Rattle.walk.specs.Walk.{Layer, Item, clean, stopped, Reading, isCut}
 use Rattle.walk.specs.CutRule.{CutRule}
 use Rattle.walk.specs.Session.{Content, sessionReading}
 use Rattle.walk.specs.Places.{FieldsPlaced}
@@ -30,6 +31,27 @@ module _ (network : Network) (cap : ℕ) where
   -- The bytes of each item's fields stand at their places: a handshake's in the session's bytes, a message's in its body.
   abbrev pub PlacesHold : Type 0
   PlacesHold = (s : List ℕ) → Each (λ i. FieldsPlaced s (i .end) (i .holds .fields)) (sessionReading network cap s .items)
+
+  -- The reading of s and then t goes on at a place: it has the items of s and then what the steps from that place on give,
+  -- `rest`, and ends as they do.
+  pub record GoesOn (s t : List ℕ) (at : ℕ) : Type 0 where
+    pub rest : Reading Content
+    pub steps : (r : Reading Content) → StepsFrom network cap (s ++ t) at r ↔ (r ≡ rest)
+    pub whole : sessionReading network cap (s ++ t) ≡ record { items = sessionReading network cap s .items ++ rest .items; ending = rest .ending }
+
+  -- What t, coming after s, makes of the reading of s.
+  pub record Grown (s t : List ℕ) : Type 0 where
+    -- where the reading of s stops, on a cut or not, the reading goes on at that stop's place
+    pub stops : (layer : Layer) (n at : ℕ) → sessionReading network cap s .ending ≡ stopped layer n at → GoesOn s t at
+    -- where it ends cleanly, at the length of s
+    pub ended : sessionReading network cap s .ending ≡ clean → GoesOn s t (length s)
+    -- a stop that doesn't count as a cut stays, and the reading with it
+    pub stays : (layer : Layer) (n at : ℕ) → sessionReading network cap s .ending ≡ stopped layer n at → ¬ (T (isCut layer n))
+        → sessionReading network cap (s ++ t) ≡ sessionReading network cap s
+
+  -- A line that grows: for all bytes that have come, and all that come after them.
+  abbrev pub LineGrows : Type 0
+  LineGrows = (s t : List ℕ) → Grown s t
 
   -- Whatever a list of calls of our writers leaves, by their contracts, is what `writeAll` says of the list.
   abbrev pub CallsAreWrites : Type 0

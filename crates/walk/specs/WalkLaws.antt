@@ -187,13 +187,13 @@ module _ {F : Type 0} {handshakeAt : List ℕ → Opened F} {messageAt : List �
       go (stops layer n b q) = rw (walk-stops s at layer n b q, step-open F handshakeAt messageAt s at b, q)
       go (goes f end b q m l w) = rw (walk-goes s at f end h b q, step-open F handshakeAt messageAt s at b, q)
 
-  -- an item of a step starts at its place, and ends after it, within the bytes
-  pub step-item : (s : List ℕ) (at : ℕ) (i : Item F) → at ≤ length s → step F handshakeAt messageAt s at ≡ item i
-      → (i .start ≡ at) × (at + least ≤ i .end) × (i .end ≤ length s)
+  -- an item of a step is what stands at its place
+  pub step-opened : (s : List ℕ) (at : ℕ) (i : Item F) → at ≤ length s → step F handshakeAt messageAt s at ≡ item i
+      → (i .start ≡ at) × (Open s at ≡ opened (i .holds) (i .end))
   unfolding stepTo
-  step-item s at i h p = go (walks s at h)
+  step-opened s at i h p = go (walks s at h)
     where
-      go : Walks s at → (i .start ≡ at) × (at + least ≤ i .end) × (i .end ≤ length s)
+      go : Walks s at → (i .start ≡ at) × (Open s at ≡ opened (i .holds) (i .end))
       go (over z e) = let x = sym (step-end F handshakeAt messageAt s at z e) ∙ p in let y : _≡_ {A = ℕ} 0 1 = cc in absurd (omega arith)
       go (stops layer n b q) =
           let x : stop layer n at ≡ item i = ap (stepTo at) (sym q) ∙ sym (step-open F handshakeAt messageAt s at b) ∙ p in
@@ -201,8 +201,14 @@ module _ {F : Type 0} {handshakeAt : List ℕ → Opened F} {messageAt : List �
       go (goes f end b q m l w) =
           let x : item (record { start = at; end = end; holds = f }) ≡ item i = ap (stepTo at) (sym q) ∙ sym (step-open F handshakeAt messageAt s at b) ∙ p in
           let j : record { start = at; end = end; holds = f } ≡ i = cc in
-          let e : i .end ≡ end = sym (ap (λ (x : Item F). x .end) j) in
-          (sym (ap (λ (x : Item F). x .start) j), omega arith, omega arith)
+          (sym (ap (λ (x : Item F). x .start) j), q ∙ ap (λ (x : Item F). opened (x .holds) (x .end)) j)
+
+  -- it starts at its place, and ends after it, within the bytes
+  pub step-item : (s : List ℕ) (at : ℕ) (i : Item F) → at ≤ length s → step F handshakeAt messageAt s at ≡ item i
+      → (i .start ≡ at) × (at + least ≤ i .end) × (i .end ≤ length s)
+  step-item s at i h p =
+      let o = step-opened s at i h p in
+      (o .0, laws .moves s at (i .holds) (i .end) h (o .1), open-ends s at (i .holds) (i .end) h (o .1))
 
   -- ---- every walk from a place
 

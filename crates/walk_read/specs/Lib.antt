@@ -1,5 +1,10 @@
 pub mod Steps
+pub mod Given
+pub mod GivenTheorems
 pub mod StepsLaws
+pub mod GivenLaws
+pub mod ReachedLaws
+pub mod GivenTheoremsProved
 pub mod Values
 pub mod ValuesLaws
 pub mod ValuesTheorems

@@ -13,14 +13,14 @@ returns c =
     let a = c .before .before .before .before .before .before .before .before .args in
     let part = a .frame .body in
     let z : part .start .0 + part .len - part .start .0 ≡ part .len = omega arith in
-    body-got (a .network) (a .start) (a .end) (a .frame) _ _ (rw z at (sym (c .before .before .before .from-frame .ensures) ∙ ap messageAnswer (c .before .message .given .1)))
+    body-got (a .network) (a .start) (a .end) _ _ _ (rw z at (sym (c .before .before .before .from-frame .ensures) ∙ ap messageAnswer (c .before .message .given .1)))
 
 returns-2 : tie.Need-returns-2
 returns-2 c =
     let a = c .before .before .before .before .before .before .before .before .args in
     let part = a .frame .body in
     let z : part .start .0 + part .len - part .start .0 ≡ part .len = omega arith in
-    body-refused (a .network) (a .start) (a .end) (a .frame) _ _ (rw z at (sym (c .before .before .before .from-frame .ensures) ∙ ap messageAnswer (c .before .number .given .1)))
+    body-refused (a .network) (a .start) (a .end) _ _ _ (rw z at (sym (c .before .before .before .from-frame .ensures) ∙ ap messageAnswer (c .before .number .given .1)))
 
 pub open-frame-spec : {M : Type 1} → statement M
 open-frame-spec =
