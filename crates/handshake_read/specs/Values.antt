@@ -20,7 +20,10 @@ bytesIn s p = bytesAt s (p .start) (p .len)
 unfoldable pub featureGiven : List ℕ → Feature → FeatureValue
 featureGiven s f = record { id = f .id; body = bytesIn s (f .body) }
 
--- an entry stands at its agent's length byte
+-- the place of an entry: its first byte is the agent's length, the byte before the agent
+abbrev pub entryPlace : PeerSpec → ℕ
+entryPlace p = p .agent .start - 1
+
 unfoldable pub peerGiven : List ℕ → PeerSpec → EntryValue
 peerGiven s p =
     record {
@@ -28,7 +31,7 @@ peerGiven s p =
       version = p .version;
       name = bytesIn s (p .name);
       address = p .address;
-      features = byIndex (featureGiven s) (λ k. mapAnswer featureOf (featureAt k s (p .agent .start - 1))) (p .features .count);
+      features = byIndex (featureGiven s) (λ k. mapAnswer featureOf (featureAt k s (entryPlace p))) (p .features .count);
     }
 
 unfoldable pub handshakeGiven : List ℕ → Handshake → HandshakeValue

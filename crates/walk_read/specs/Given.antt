@@ -1,11 +1,10 @@
 -- What the code gives of a session: the answers of `step` from place 0 on, each next one at the end that the last answer
 -- itself names. And what is reached from an answer: the bytes that its places name.
-use Prim.Native.Nat.{ℕ, _-_}
+use Prim.Native.Nat.{ℕ}
 use mathlib.Core.List.{List, map}
 use lib.ListN.{take, drop}
 use Rattle.types.specs.declared.Network.{Network}
 use Rattle.frame_read.specs.declared.StreamPart.{StreamPart}
-use Rattle.handshake_read.specs.declared.PeerSpec.{PeerSpec}
 use Rattle.walk.specs.Walk as Walk
 use Rattle.walk.specs.Walk.{Item, item, cleanEnd, stop, outside, Reading}
 use Rattle.walk.specs.Session.{Content, sessionStep, sessionReading}
@@ -51,7 +50,3 @@ givenReading network cap s =
 -- the bytes that a part of the stream s names
 abbrev pub partIn : List ℕ → StreamPart → List ℕ
 partIn s p = take (p .len) (drop (p .start .0) s)
-
--- the place of an entry: its first byte is the agent's length, the byte before the agent
-abbrev pub entryPlace : PeerSpec → ℕ
-entryPlace p = p .agent .start - 1

@@ -1,11 +1,11 @@
 pub mod Steps
 pub mod Given
+pub mod Values
 pub mod GivenTheorems
+pub mod ValuesTheorems
 pub mod StepsLaws
 pub mod GivenLaws
 pub mod ReachedLaws
 pub mod GivenTheoremsProved
-pub mod Values
 pub mod ValuesLaws
-pub mod ValuesTheorems
 pub mod ValuesTheoremsProved

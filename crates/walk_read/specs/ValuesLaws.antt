@@ -14,6 +14,7 @@ use Rattle.walk.specs.Session.{Fields, Verdict, Content, sessionReading}
 use Rattle.walk.specs.SessionLaws.{session-readers}
 use Rattle.walk.specs.Walk.{Item, item}
 use Rattle.walk.specs.WrittenSession.{Value, handshakeOf, messageOf, fieldsValue, itemValues}
+use Rattle.walk_read.specs.Given.{itemGiven}
 use Rattle.walk_read.specs.Steps.{itemOf, stepOf}
 use Rattle.walk_read.specs.Values.{givenValue, givenValues}
 
@@ -29,13 +30,12 @@ module _ (network : Network) (cap : ℕ) (s : List ℕ) where
 
   -- where each answer is made the value of its item
   made-each : (is : List (Item Content)) → Each (λ i. givenValue cap s (stepOf network s (item i)) ≡ fieldsValue (i .holds .fields) ∷ []) is
-      → givenValues cap s (map (λ (i : Item Content). stepOf network s (item i)) is) ≡ itemValues is
-  unfolding givenValues itemValues flatMap
+      → givenValues cap s (map (itemGiven network s) is) ≡ itemValues is
+  unfolding givenValues itemValues itemGiven flatMap
   made-each [] none = refl
   made-each (i ∷ is) (more e es) = rw e (ap (λ (l : List Value). fieldsValue (i .holds .fields) ∷ l) (made-each is es))
 
-  pub items-given : givenValues cap s (map (λ (i : Item Content). stepOf network s (item i)) (sessionReading network cap s .items))
-      ≡ itemValues (sessionReading network cap s .items)
+  pub items-given : givenValues cap s (map (itemGiven network s) (sessionReading network cap s .items)) ≡ itemValues (sessionReading network cap s .items)
   unfolding sessionReading stepOf
   items-given =
       made-each _
