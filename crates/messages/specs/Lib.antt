@@ -4,4 +4,5 @@ pub mod MessageLaws
 pub mod Cases
 pub mod Writes
 pub mod WritesLaws
+pub mod WriterOrder
 pub mod Bogus
