@@ -12,3 +12,4 @@ pub mod RowsLaws
 pub mod PuttingLaws
 pub mod WritesLaws
 pub mod ModeCases
+pub mod OrderCases
