@@ -40,11 +40,22 @@ Each (c ∷ cs) = (frameWritten Mainnet 55 (c .body) (c .out) (c .at) ≡ c .say
 
 pub all-cases : (most over : List ℕ) → length most ≡ 16388608 → length over ≡ 16388609 → Each (cases most over)
 unfolding cases Each frameWritten written asked bodyStart
-all-cases most over m o =
-    (refl,
-    (rw o,
-    (rw (length-frameBytes Mainnet 55 most, m),
-    (refl,
-    (rw length-frameBytes,
-    (rw length-frameBytes,
-    tt))))))
+all-cases most over m o = (
+  refl,
+  (
+    rw o,
+    (
+      rw (length-frameBytes Mainnet 55 most, m),
+      (
+        refl,
+        (
+          rw length-frameBytes,
+          (
+            rw length-frameBytes,
+            tt,
+          ),
+        ),
+      ),
+    ),
+  ),
+)

@@ -5,4 +5,5 @@ pub mod Cases
 pub mod Writes
 pub mod WritesLaws
 pub mod WriterOrder
+pub mod OrderCases
 pub mod Bogus
