@@ -18,7 +18,7 @@ use Rattle.types.specs.declared.Address.the-variants.{None, V4}
 use Rattle.types.specs.Order.{thenBy, below}
 use Rattle.address_sanity.specs.Ranges.{ipv4, alwaysV4, mainnetV4}
 use Rattle.address_sanity.specs.Bogus.{contains, someContains, bogus}
-use Rattle.handshake.specs.Entry.{Entry, version, addressOf, address, addressIf, entry}
+use Rattle.handshake.specs.Entry.{version, addressOf, address, addressIf, entry}
 use Rattle.handshake.specs.Verdict.{firstFeature, otherMagic, validatePeer}
 use Rattle.handshake.specs.Writes.{Config, nipopow, modeFeature}
 use Rattle.messages.specs.Message.{Message, inv, count, header, ids, message}

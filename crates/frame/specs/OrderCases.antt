@@ -8,7 +8,6 @@ use Rattle.wire.specs.Output.{asked, written}
 use Rattle.wire.specs.declared.Written.{Written}
 use Rattle.wire.specs.declared.Written.the-variants.{To, Refused}
 use Rattle.types.specs.declared.Network.the-variants.{Mainnet}
-use Rattle.frame.specs.Frame.{checkedBytes, frameBytes}
 use Rattle.frame.specs.FrameLaws.{bodyStart, length-frameBytes}
 use Rattle.frame.specs.Writes.{frameWritten}
 

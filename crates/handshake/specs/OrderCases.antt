@@ -16,6 +16,7 @@ use Rattle.vlq.specs.Vlq.{vlqIn, vlqBytes}
 use Rattle.zigzag.specs.Zigzag.{zigzagEncode}
 use Rattle.types.specs.declared.Network.the-variants.{Mainnet}
 use Rattle.types.specs.declared.ProxyMode.the-variants.{Full}
+use Rattle.types.specs.declared.Version.{Version}
 use Rattle.types.specs.declared.Address.the-variants.{None}
 use Rattle.handshake.specs.Entry.{addressOf}
 use Rattle.handshake.specs.Value.{FeatureValue, EntryValue, addressBytes, featureBytes, versionBytes, entryBytes, handshakeBytes, shortStrings, utf8Strings, fewFeatures, lengthsWithin, entriesAsked}
@@ -27,14 +28,14 @@ pub data Write : Type 0 where
   -- row 0 of a table, and the same with the timestamp 0
   anEntry aHandshake : Lent → ℕ → ℕ → Write
   aBuild : Config → ℕ → ℕ → Write
-  -- the questions of entries by value, and no bytes
-  entriesAlone : List EntryValue → Write
+  -- the questions of entries by value alone
+  theValues : List EntryValue → Write
 
 unfoldable pub saidOf : Write → Written
 saidOf (anEntry l n at) = entryWritten l 0 (replicate n 7) at
 saidOf (aHandshake l n at) = handshakeWritten 0 l 0 (replicate n 7) at
 saidOf (aBuild c n at) = builtWritten c (replicate n 7) at
-saidOf (entriesAlone es) = asked (entriesAsked es) (To 0)
+saidOf (theValues es) = asked (entriesAsked es) (To 0)
 
 pub record Case : Type 0 where
   pub write : Write
@@ -65,6 +66,9 @@ ofLength l = 0 ∷ 0 ∷ 6 ∷ 0 ∷ 1 ∷ 0 ∷ 0 ∷ l ∷ 0 ∷ 0 ∷ 0 ∷ 0
 abbrev empty : ℕ → List ℕ
 empty n = replicate (3 * n) 0
 
+abbrev v601 : Version
+v601 = record { major = 6; minor = 0; patch = 1 }
+
 abbrev config : List ℕ → List ℕ → Config
 config agent name =
     record {
@@ -74,19 +78,19 @@ config agent name =
       verifying = true;
       blocksToKeep = pos 0;
       agent = agent;
-      version = record { major = 6; minor = 0; patch = 1 };
+      version = v601;
       name = name;
       address = None;
       timestamp = 0;
       sessionId = pos 0;
     }
 
-abbrev entryWith : List ℕ → List FeatureValue → EntryValue
-entryWith agent features =
-    record { agent = agent; version = record { major = 6; minor = 0; patch = 1 }; name = []; address = None; features = features }
-
 abbrev feature : List ℕ → FeatureValue
 feature body = record { id = 0; body = body }
+
+-- agent, name, number of features
+abbrev entryWith : List ℕ → List ℕ → ℕ → EntryValue
+entryWith agent name n = record { agent = agent; version = v601; name = name; address = None; features = replicate n (feature []) }
 
 -- ---- the order
 
@@ -99,70 +103,63 @@ inOrder w =
     ∷ case (w (lent (row 256 0 0 0) [] (bad 256)) 0 0) (Refused 13)
     ∷ case (w (lent (row 255 0 0 256) (empty 256) (bad 255)) 0 0) (Refused 4)
     ∷ case (w (lent (row 255 0 0 256) (empty 256) (good 255)) 0 0) (Refused 15)
-    ∷ case (w (lent (row 255 0 0 255) (empty 255) (good 255)) 0 0) (Refused 14)
+    ∷ case (w (lent (row 255 0 0 0) [] (good 255)) 0 0) (Refused 14)
     -- 16 of a row that is not written and of a feature that is in no entry, before 12
     ∷ case (w (lent (row 1 0 0 0 ++ row 0 0 65536 0) [] []) 0 0) (Refused 16)
     ∷ case (w (lent (row 1 0 0 1) (0 ∷ 0 ∷ 0 ∷ 256 ∷ 0 ∷ 0 ∷ []) []) 0 0) (Refused 16)
-    -- 12 of the last feature before 13 of the agent, 13 of the name before 4 of the agent, 4 of the name before 15
+    -- 12 of the last feature before 13 of the agent, 13 of the name before 4 of the agent
     ∷ case (w (lent (row 256 0 0 2) (0 ∷ 0 ∷ 0 ∷ 0 ∷ 256 ∷ 1 ∷ []) (bad 256)) 0 0) (Refused 12)
     ∷ case (w (lent (row 1 256 0 0) [] (bad 256)) 0 0) (Refused 13)
-    ∷ case (w (lent (row 0 1 0 256) (empty 256) (bad 1)) 0 0) (Refused 4)
-    ∷ []
-
--- ---- the limits: where the answer is 14, every other question was answered "yes"
-
-abbrev limits : (Lent → ℕ → ℕ → Write) → List Case
-limits w =
-    -- strings of at most 255 bytes, at most 255 features
-    case (w (lent (row 255 0 0 0) [] (good 255)) 0 0) (Refused 14)
-    ∷ case (w (lent (row 256 0 0 0) [] (good 256)) 0 0) (Refused 13)
-    ∷ case (w (lent (row 0 255 0 0) [] (good 255)) 0 0) (Refused 14)
-    ∷ case (w (lent (row 0 256 0 0) [] (good 256)) 0 0) (Refused 13)
-    ∷ case (w (lent (row 0 0 0 255) (empty 255) []) 0 0) (Refused 14)
-    ∷ case (w (lent (row 0 0 0 256) (empty 256) []) 0 0) (Refused 15)
-    -- ports below 65,536, versions and feature ids bytes, L 0, 8 or 20
-    ∷ case (w (lent (row 0 0 65535 0) [] []) 0 0) (Refused 14)
-    ∷ case (w (lent (row 0 0 65536 0) [] []) 0 0) (Refused 16)
-    ∷ case (w (lent (ofVersion 255 255 255) [] []) 0 0) (Refused 14)
-    ∷ case (w (lent (ofVersion 256 0 0) [] []) 0 0) (Refused 16)
-    ∷ case (w (lent (ofVersion 0 256 0) [] []) 0 0) (Refused 16)
-    ∷ case (w (lent (ofVersion 0 0 256) [] []) 0 0) (Refused 16)
-    ∷ case (w (lent (row 0 0 0 1) (255 ∷ 0 ∷ 0 ∷ []) []) 0 0) (Refused 14)
-    ∷ case (w (lent (row 0 0 0 1) (256 ∷ 0 ∷ 0 ∷ []) []) 0 0) (Refused 16)
-    ∷ case (w (lent (ofLength 8) [] (good 16)) 0 0) (Refused 14)
-    ∷ case (w (lent (ofLength 20) [] (good 16)) 0 0) (Refused 14)
-    ∷ case (w (lent (ofLength 7) [] (good 16)) 0 0) (Refused 16)
-    ∷ case (w (lent (ofLength 9) [] (good 16)) 0 0) (Refused 16)
-    ∷ case (w (lent (ofLength 19) [] (good 16)) 0 0) (Refused 16)
-    ∷ case (w (lent (ofLength 21) [] (good 17)) 0 0) (Refused 16)
     ∷ []
 
 unfoldable pub cases : List Case
 cases =
     inOrder anEntry
     ++ (inOrder aHandshake
-    ++ (limits anEntry
-    ++ (limits aHandshake
     -- the room: an entry of 7 bytes, and with its timestamp 8
     ++ (case (anEntry (lent (row 0 0 0 0) [] []) 8 1) (To 8)
     ∷ case (anEntry (lent (row 0 0 0 0) [] []) 8 2) (Refused 14)
     ∷ case (aHandshake (lent (row 0 0 0 0) [] []) 8 0) (To 8)
     ∷ case (aHandshake (lent (row 0 0 0 0) [] []) 8 1) (Refused 14)
-    -- `build`, line by line as above; 13 of the name before 4 of the agent; its limits
+    -- `build`, line by line as above; 13 of the name before 4 of the agent; the room
     ∷ case (aBuild (config (good 256) []) 0 1) (Refused 12)
     ∷ case (aBuild (config (bad 256) []) 0 0) (Refused 13)
     ∷ case (aBuild (config (bad 255) []) 0 0) (Refused 4)
     ∷ case (aBuild (config (good 255) []) 0 0) (Refused 14)
     ∷ case (aBuild (config (bad 1) (good 256)) 0 0) (Refused 13)
-    ∷ case (aBuild (config [] (good 255)) 0 0) (Refused 14)
-    ∷ case (aBuild (config [] (good 256)) 0 0) (Refused 13)
     ∷ case (aBuild (config [] []) 21 0) (To 21)
     ∷ case (aBuild (config [] []) 20 0) (Refused 14)
     -- each question over all entries before the next
-    ∷ case (entriesAlone (entryWith (bad 1) [] ∷ entryWith (good 256) [] ∷ [])) (Refused 13)
-    ∷ case (entriesAlone (entryWith [] (replicate 256 (feature [])) ∷ entryWith (good 256) [] ∷ [])) (Refused 13)
-    ∷ case (entriesAlone (entryWith [] (replicate 256 (feature [])) ∷ entryWith (bad 1) [] ∷ [])) (Refused 4)
-    ∷ []))))
+    ∷ case (theValues (entryWith (bad 1) [] 0 ∷ entryWith (good 256) [] 0 ∷ [])) (Refused 13)
+    ∷ case (theValues (entryWith [] [] 256 ∷ entryWith (good 256) [] 0 ∷ [])) (Refused 13)
+    ∷ case (theValues (entryWith [] [] 256 ∷ entryWith (bad 1) [] 0 ∷ [])) (Refused 4)
+    -- limits: strings of at most 255 bytes, at most 255 features
+    ∷ case (theValues (entryWith (good 255) [] 255 ∷ [])) (To 0)
+    ∷ case (theValues (entryWith (good 256) [] 0 ∷ [])) (Refused 13)
+    ∷ case (theValues (entryWith [] (good 255) 0 ∷ [])) (To 0)
+    ∷ case (theValues (entryWith [] (good 256) 0 ∷ [])) (Refused 13)
+    ∷ case (theValues (entryWith [] [] 256 ∷ [])) (Refused 15)
+    -- whole rows, ports below 65,536, versions and feature ids bytes, L 0, 8 or 20; where these are answered "yes" the row is asked for, then the room
+    ∷ case (aHandshake (lent [] [] []) 0 0) (Refused 12)
+    ∷ case (aHandshake (lent (replicate 11 0) [] []) 0 0) (Refused 16)
+    ∷ case (aHandshake (lent (replicate 12 0) [] []) 0 0) (Refused 14)
+    ∷ case (aHandshake (lent (replicate 13 0) [] []) 0 0) (Refused 16)
+    ∷ case (aHandshake (lent (replicate 12 0) (0 ∷ 0 ∷ []) []) 0 0) (Refused 16)
+    ∷ case (aHandshake (lent (row 0 0 65535 0) [] []) 0 0) (Refused 14)
+    ∷ case (aHandshake (lent (row 0 0 65536 0) [] []) 0 0) (Refused 16)
+    ∷ case (aHandshake (lent (ofVersion 255 255 255) [] []) 0 0) (Refused 14)
+    ∷ case (aHandshake (lent (ofVersion 256 0 0) [] []) 0 0) (Refused 16)
+    ∷ case (aHandshake (lent (ofVersion 0 256 0) [] []) 0 0) (Refused 16)
+    ∷ case (aHandshake (lent (ofVersion 0 0 256) [] []) 0 0) (Refused 16)
+    ∷ case (aHandshake (lent (row 0 0 0 1) (255 ∷ 0 ∷ 0 ∷ []) []) 0 0) (Refused 14)
+    ∷ case (aHandshake (lent (row 0 0 0 1) (256 ∷ 0 ∷ 0 ∷ []) []) 0 0) (Refused 16)
+    ∷ case (aHandshake (lent (ofLength 7) [] (good 16)) 0 0) (Refused 16)
+    ∷ case (aHandshake (lent (ofLength 8) [] (good 16)) 0 0) (Refused 14)
+    ∷ case (aHandshake (lent (ofLength 9) [] (good 16)) 0 0) (Refused 16)
+    ∷ case (aHandshake (lent (ofLength 19) [] (good 16)) 0 0) (Refused 16)
+    ∷ case (aHandshake (lent (ofLength 20) [] (good 16)) 0 0) (Refused 14)
+    ∷ case (aHandshake (lent (ofLength 21) [] (good 17)) 0 0) (Refused 16)
+    ∷ []))
 
 pub all-cases : map (λ (c : Case). saidOf (c .write)) cases ≡ map (λ (c : Case). c .says) cases
 unfolding cases saidOf entryWritten handshakeWritten builtWritten built written asked tablesWhole wholeRows rows entryNumbers featureNumbers every rowInside entryInside inside featureInside
@@ -172,22 +169,20 @@ all-cases = refl
 
 -- ---- features as long as the limit, and one byte longer: lists given by their length, which no computing counts
 
--- one feature of all of the buffer, which is one byte over the limit, and empty ones
-abbrev overlong : List ℕ → ℕ → Lent
-overlong buffer features = lent (row 0 0 0 features) (0 ∷ 0 ∷ 16388609 ∷ empty (features - 1)) buffer
+-- one entry, of which the first feature is a given one and the others are empty
+abbrev firstOf : List ℕ → ℕ → EntryValue
+firstOf body n = record { agent = []; version = v601; name = []; address = None; features = feature body ∷ replicate (n - 1) (feature []) }
 
 unfoldable pub longCases : List ℕ → List ℕ → List Case
 longCases most over =
-    -- 15 before 3, and 3 before 14
-    case (anEntry (overlong over 256) 0 0) (Refused 15)
-    ∷ case (aHandshake (overlong over 256) 0 0) (Refused 15)
-    ∷ case (anEntry (overlong over 1) 0 0) (Refused 3)
-    ∷ case (aHandshake (overlong over 1) 0 0) (Refused 3)
-    -- 15 of the second entry before 3 of the first
-    ∷ case (entriesAlone (entryWith [] (feature over ∷ []) ∷ entryWith [] (replicate 256 (feature [])) ∷ [])) (Refused 15)
+    -- 15 before 3, also where 15 is the second entry's; 3 before 14
+    case (theValues (firstOf over 256 ∷ [])) (Refused 15)
+    ∷ case (theValues (firstOf over 1 ∷ entryWith [] [] 256 ∷ [])) (Refused 15)
+    ∷ case (anEntry (lent (row 0 0 0 1) (0 ∷ 0 ∷ 16388609 ∷ []) over) 0 0) (Refused 3)
+    ∷ case (aHandshake (lent (row 0 0 0 1) (0 ∷ 0 ∷ 16388609 ∷ []) over) 0 0) (Refused 3)
     -- the limit
-    ∷ case (entriesAlone (entryWith [] (feature most ∷ []) ∷ [])) (To 0)
-    ∷ case (entriesAlone (entryWith [] (feature over ∷ []) ∷ [])) (Refused 3)
+    ∷ case (theValues (firstOf most 1 ∷ [])) (To 0)
+    ∷ case (theValues (firstOf over 1 ∷ [])) (Refused 3)
     ∷ []
 
 unfoldable pub Each : List Case → Type 0
@@ -197,4 +192,4 @@ Each (c ∷ cs) = (saidOf (c .write) ≡ c .says) × Each cs
 pub all-long : (most over : List ℕ) → length most ≡ 16388608 → length over ≡ 16388609 → Each (longCases most over)
 unfolding longCases Each saidOf entryWritten handshakeWritten written asked tablesWhole wholeRows rows entryNumbers featureNumbers every rowInside entryInside inside featureInside
     entriesAsked shortStrings utf8Strings fewFeatures lengthsWithin entryOf featureOf utf8 utf8From
-all-long most over m o = (rw o, (rw o, (rw (length-take 16388609 over, o), (rw (length-take 16388609 over, o), (refl, (rw m, (rw o, tt)))))))
+all-long most over m o = (refl, (refl, (rw (length-take 16388609 over, o), (rw (length-take 16388609 over, o), (rw m, (rw o, tt))))))

@@ -29,12 +29,12 @@ use Rattle.messages.specs.Writes.{MessageWrite, writeGetPeers, writePeer
 pub data Write : Type 0 where
   -- a write into an output of some length, from a place on
   aMessage : ℕ → MessageWrite → ℕ → ℕ → Write
-  -- the questions of a message by value, and no bytes
-  valueAlone : ℕ → MessageValue → Write
+  -- the questions of a message by value alone
+  theValue : ℕ → MessageValue → Write
 
 unfoldable pub saidOf : Write → Written
 saidOf (aMessage cap w n at) = messageWritten Mainnet cap w (replicate n 7) at
-saidOf (valueAlone cap m) = asked (messageAsked cap m) (To 0)
+saidOf (theValue cap m) = asked (messageAsked cap m) (To 0)
 
 pub record Case : Type 0 where
   pub write : Write
@@ -58,8 +58,15 @@ row agent port features = 0 ∷ agent ∷ 6 ∷ 0 ∷ 1 ∷ 0 ∷ 0 ∷ 0 ∷ 0 
 abbrev empty : ℕ → List ℕ
 empty n = replicate (3 * n) 0
 
-abbrev entryWith : List FeatureValue → EntryValue
-entryWith features = record { agent = []; version = record { major = 6; minor = 0; patch = 1 }; name = []; address = None; features = features }
+abbrev feature : List ℕ → FeatureValue
+feature body = record { id = 0; body = body }
+
+abbrev payload : List ℕ → PayloadValue
+payload body = record { id = []; body = body }
+
+-- an entry's agent and features
+abbrev entryWith : List ℕ → List FeatureValue → EntryValue
+entryWith agent features = record { agent = agent; version = record { major = 6; minor = 0; patch = 1 }; name = []; address = None; features = features }
 
 -- Peers and ModifierResponse, into an empty output
 abbrev peersAt : ℕ → Lent → ℕ → Write
@@ -75,8 +82,8 @@ ids write value =
     case (aMessage 64 (write 2 (0 ∷ []) (good 31)) 0 1) (Refused 12)
     ∷ case (aMessage 64 (write 2 (replicate 401 0) (good 31)) 0 0) (Refused 12)
     ∷ case (aMessage 64 (write 2 (replicate 401 0) (good 32)) 0 0) (Refused 10)
-    ∷ case (valueAlone 64 (value 2 (replicate 400 []))) (To 0)
-    ∷ case (valueAlone 64 (value 2 (replicate 401 []))) (Refused 10)
+    ∷ case (theValue 64 (value 2 (replicate 400 []))) (To 0)
+    ∷ case (theValue 64 (value 2 (replicate 401 []))) (Refused 10)
     ∷ []
 
 unfoldable pub cases : List Case
@@ -88,24 +95,23 @@ cases =
     ∷ case (peersAt 64 (lent (row 256 0 0) [] (bad 256)) 0) (Refused 13)
     ∷ case (peersAt 0 (lent (row 255 0 256) (empty 256) (bad 255)) 0) (Refused 4)
     ∷ case (peersAt 0 (lent (row 255 0 256) (empty 256) (good 255)) 0) (Refused 15)
-    ∷ case (peersAt 0 (lent (row 255 0 255) (empty 255) (good 255)) 0) (Refused 10)
+    ∷ case (theValue 0 (peersValue (entryWith [] [] ∷ []))) (Refused 10)
     -- each question over all rows before the next: an earlier one of row 1, a later one of row 0
     ∷ case (peersAt 64 (lent (row 1 0 0 ++ row 0 65536 0) [] []) 0) (Refused 16)
     ∷ case (peersAt 64 (lent (row 256 0 0 ++ row 257 0 0) [] (bad 256)) 0) (Refused 12)
     ∷ case (peersAt 64 (lent (row 1 0 0 ++ row 256 0 0) [] (bad 256)) 0) (Refused 13)
     ∷ case (peersAt 64 (lent (row 0 0 256 ++ row 256 0 0) (empty 256) (good 256)) 0) (Refused 13)
-    ∷ case (peersAt 64 (lent (row 0 0 256 ++ row 1 0 0) (empty 256) (bad 1)) 0) (Refused 4)
+    ∷ case (theValue 64 (peersValue (entryWith [] (replicate 256 (feature [])) ∷ entryWith (bad 1) [] ∷ []))) (Refused 4)
     -- the cap, and one more
-    ∷ case (valueAlone 2 (peersValue (replicate 2 (entryWith [])))) (To 0)
-    ∷ case (valueAlone 2 (peersValue (replicate 3 (entryWith [])))) (Refused 10)
-    ∷ case (valueAlone 401 (peersValue (replicate 401 (entryWith [])))) (To 0)
+    ∷ case (theValue 2 (peersValue (replicate 2 (entryWith [] [])))) (To 0)
+    ∷ case (theValue 2 (peersValue (replicate 3 (entryWith [] [])))) (Refused 10)
+    ∷ case (theValue 401 (peersValue (replicate 401 (entryWith [] [])))) (To 0)
     -- ModifierResponse: whole rows before the place, the place and the parts before 10, at most 400 payloads
     ∷ case (responseAt (0 ∷ 0 ∷ []) [] 1) (Refused 16)
     ∷ case (responseAt (0 ∷ 0 ∷ 0 ∷ []) (good 31) 1) (Refused 12)
     ∷ case (responseAt (empty 401) (good 31) 0) (Refused 12)
-    ∷ case (responseAt (empty 401) (good 32) 0) (Refused 10)
-    ∷ case (valueAlone 64 (modifierResponseValue 2 (replicate 400 (record { id = []; body = [] })))) (To 0)
-    ∷ case (valueAlone 64 (modifierResponseValue 2 (replicate 401 (record { id = []; body = [] })))) (Refused 10)
+    ∷ case (theValue 64 (modifierResponseValue 2 (replicate 400 (payload [])))) (To 0)
+    ∷ case (theValue 64 (modifierResponseValue 2 (replicate 401 (payload [])))) (Refused 10)
     -- Unknown: 12 before 15, 15 before 14; GetPeers: the room for its 9 bytes
     ∷ case (aMessage 64 (writeUnknown 22 []) 8 9) (Refused 12)
     ∷ case (aMessage 64 (writeUnknown 22 []) 8 0) (Refused 15)
@@ -123,35 +129,29 @@ all-cases = refl
 
 -- ---- lists as long as the limit, and one byte longer, which no computing counts
 
-abbrev feature : List ℕ → FeatureValue
-feature body = record { id = 0; body = body }
-
-abbrev payload : List ℕ → PayloadValue
-payload body = record { id = []; body = body }
-
 unfoldable pub longCases : List ℕ → List ℕ → List Case
 longCases most over =
     -- Peers: 15 before 3, 3 before 10, 10 before 7, 7 before 14; 15 of row 1 before 3 of row 0
-    case (valueAlone 0 (peersValue (entryWith (feature over ∷ replicate 255 (feature [])) ∷ []))) (Refused 15)
-    ∷ case (valueAlone 0 (peersValue (entryWith (feature over ∷ []) ∷ []))) (Refused 3)
-    ∷ case (valueAlone 0 (peersValue (entryWith (feature most ∷ []) ∷ []))) (Refused 10)
-    ∷ case (valueAlone 1 (peersValue (entryWith (feature most ∷ []) ∷ []))) (Refused 7)
-    ∷ case (valueAlone 64 (peersValue (entryWith (feature over ∷ []) ∷ entryWith (replicate 256 (feature [])) ∷ []))) (Refused 15)
+    case (theValue 0 (peersValue (entryWith [] (feature over ∷ replicate 255 (feature [])) ∷ []))) (Refused 15)
+    ∷ case (theValue 0 (peersValue (entryWith [] (feature over ∷ []) ∷ []))) (Refused 3)
+    ∷ case (theValue 0 (peersValue (entryWith [] (feature most ∷ []) ∷ []))) (Refused 10)
+    ∷ case (theValue 1 (peersValue (entryWith [] (feature most ∷ []) ∷ []))) (Refused 7)
+    ∷ case (theValue 64 (peersValue (entryWith [] (feature over ∷ []) ∷ entryWith [] (replicate 256 (feature [])) ∷ []))) (Refused 15)
     -- ModifierResponse: 12 before 3, 3 before 10, 10 before 7, 7 before 14; 12 of row 1 before 3 of row 0
     ∷ case (responseAt (0 ∷ 1 ∷ 16388610 ∷ []) (7 ∷ over) 0) (Refused 12)
-    ∷ case (valueAlone 64 (modifierResponseValue 2 (payload over ∷ replicate 400 (payload [])))) (Refused 3)
-    ∷ case (valueAlone 64 (modifierResponseValue 2 (payload most ∷ replicate 400 (payload [])))) (Refused 10)
-    ∷ case (valueAlone 64 (modifierResponseValue 2 (payload most ∷ []))) (Refused 7)
+    ∷ case (theValue 64 (modifierResponseValue 2 (payload over ∷ replicate 400 (payload [])))) (Refused 3)
+    ∷ case (theValue 64 (modifierResponseValue 2 (payload most ∷ replicate 400 (payload [])))) (Refused 10)
+    ∷ case (theValue 64 (modifierResponseValue 2 (payload most ∷ []))) (Refused 7)
     ∷ case (responseAt (0 ∷ 1 ∷ 16388609 ∷ 16388610 ∷ 0 ∷ 0 ∷ []) (7 ∷ over) 0) (Refused 12)
     -- Unknown and SyncInfo: 12 before 7, 7 before 15 and 14; the limit of a body
     ∷ case (aMessage 64 (writeUnknown 22 over) 0 1) (Refused 12)
     ∷ case (aMessage 64 (writeUnknown 22 over) 0 0) (Refused 7)
     ∷ case (aMessage 64 (writeUnknown 22 most) 0 0) (Refused 15)
     ∷ case (aMessage 64 (writeSyncInfo over) 0 0) (Refused 7)
-    ∷ case (valueAlone 64 (unknownValue 23 most)) (To 0)
-    ∷ case (valueAlone 64 (unknownValue 23 over)) (Refused 7)
-    ∷ case (valueAlone 64 (syncInfoValue most)) (To 0)
-    ∷ case (valueAlone 64 (syncInfoValue over)) (Refused 7)
+    ∷ case (theValue 64 (unknownValue 23 most)) (To 0)
+    ∷ case (theValue 64 (unknownValue 23 over)) (Refused 7)
+    ∷ case (theValue 64 (syncInfoValue most)) (To 0)
+    ∷ case (theValue 64 (syncInfoValue over)) (Refused 7)
     ∷ []
 
 unfoldable pub Each : List Case → Type 0
@@ -159,7 +159,7 @@ Each [] = Unit {0}
 Each (c ∷ cs) = (saidOf (c .write) ≡ c .says) × Each cs
 
 -- a body is longer than a feature or a payload in it
-feature-in-entry : (body : List ℕ) → length body < length (Values.entryBytes (entryWith (feature body ∷ [])))
+feature-in-entry : (body : List ℕ) → length body < length (Values.entryBytes (entryWith [] (feature body ∷ [])))
 unfolding Values.entryBytes Values.versionBytes Values.addressBytes Values.featureBytes
 feature-in-entry body =
     omega (arith, length-flatMap-cons Values.featureBytes (feature body) [], length-append (vlqBytes (length body)) body)
@@ -182,13 +182,13 @@ payload-in-response p =
     )
 
 -- 7 where a feature, or a payload, is as long as a body may be
-peers-7 : (most : List ℕ) → length most ≡ 16388608 → saidOf (valueAlone 1 (peersValue (entryWith (feature most ∷ []) ∷ []))) ≡ Refused 7
+peers-7 : (most : List ℕ) → length most ≡ 16388608 → saidOf (theValue 1 (peersValue (entryWith [] (feature most ∷ []) ∷ []))) ≡ Refused 7
 unfolding saidOf asked messageAsked entriesOf payloadsWithin countWithin every Values.entriesAsked Values.shortStrings Values.utf8Strings Values.fewFeatures Values.lengthsWithin utf8 utf8From
 peers-7 most m =
-    let e = entryWith (feature most ∷ []) in
+    let e = entryWith [] (feature most ∷ []) in
     rw (m, lt-leb (length (bodyBytes (peersValue (e ∷ [])))) limit (omega (arith, m, feature-in-entry most, entry-in-peers e)))
 
-response-7 : (most : List ℕ) → length most ≡ 16388608 → saidOf (valueAlone 64 (modifierResponseValue 2 (payload most ∷ []))) ≡ Refused 7
+response-7 : (most : List ℕ) → length most ≡ 16388608 → saidOf (theValue 64 (modifierResponseValue 2 (payload most ∷ []))) ≡ Refused 7
 unfolding saidOf asked messageAsked entriesOf payloadsWithin countWithin every Values.entriesAsked
 response-7 most m =
     rw (m, lt-leb (length (bodyBytes (modifierResponseValue 2 (payload most ∷ [])))) limit (omega (arith, m, payload-in-response (payload most))))
