@@ -1,4 +1,5 @@
--- Cases of addresses on both networks (document 01, "Addresses": 0.0.0.1), beside those of document 01 "At the edges" (crate `edges`); one lemma for the table.
+-- Cases of addresses on both networks (document 01, "Addresses": 0.0.0.1), beside those of its "At the edges", which
+-- stand in the crate `edges`. One lemma covers the table.
 use Prim.Native.Nat.{ℕ, _/_, _%_, _^_}
 use mathlib.Core.Path.{_≡_, refl}
 use mathlib.Core.List.{List, [], _∷_, map}

@@ -1,4 +1,5 @@
--- Document 01, "At the edges": every case marked *, in its order, computed from the definitions that the contracts cite. One lemma covers the table.
+-- Document 01, "At the edges": every case marked *, in its order and under its own words, computed from the definitions
+-- that the contracts cite. One lemma covers the table.
 use Prim.Native.Nat.{ℕ, _-_, _^_}
 use mathlib.Core.Bool.{Bool, true, false}
 use mathlib.Core.List.{List, [], _∷_}
@@ -46,7 +47,7 @@ asLength bytes answer = case (Answer ℕ) (vlqLength bytes 0) answer
 abbrev nineFF : ℕ → List ℕ
 nineFF b = 0xff ∷ 0xff ∷ 0xff ∷ 0xff ∷ 0xff ∷ 0xff ∷ 0xff ∷ 0xff ∷ 0xff ∷ b ∷ []
 
--- zigzag, over all integers (at any width: `one-to-one`, with 32 and 64 bits as uses)
+-- zigzag, over all integers; `one-to-one` (zigzag) has it at any width, with 32 and 64 bits as uses
 abbrev encoded : ℤ → ℕ → Case
 encoded n m = case ℕ (zigzagEncode n) m
 

@@ -1,5 +1,6 @@
--- The write of a frame at the edges of its questions (document 01, "Questions", Writers): two neighbouring questions answered "no" at once, and both sides of
--- the limit of a body. Bodies as long as that are given by their length, which no computing counts.
+-- The write of a frame at the edges of its questions (document 01, "Questions", Writers): two neighbouring questions
+-- answered "no" at once, and both sides of the limit of a body. Bodies as long as that are given by their length alone,
+-- since counting them would take the prover too long.
 use Prim.Native.Nat.{ℕ}
 use mathlib.Core.List.{List, [], _∷_}
 use mathlib.Core.Path.{_≡_, refl}

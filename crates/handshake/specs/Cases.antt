@@ -1,4 +1,4 @@
--- Document 01, "Entries and handshakes" and the traps below "At the edges": one table of bytes with what is said of them.
+-- Document 01, "Entries and handshakes" and the traps below "At the edges": a table of bytes with what is said of them.
 use Prim.Native.Nat.{ℕ}
 use mathlib.Core.List.{List, [], _∷_, _++_, map}
 use mathlib.Core.Option.{Option, none, some}

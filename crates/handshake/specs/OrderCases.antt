@@ -1,5 +1,7 @@
--- The writes of entries, handshakes and `build` at the edges of their questions (document 01, "Questions", Writers), computed from the definitions: two neighbouring
--- questions answered "no" at once, an earlier question at a later value, and both sides of each limit. A list longer than the limit is given by its length.
+-- The writes of entries, handshakes and `build` at the edges of their questions (document 01, "Questions", Writers),
+-- computed from the definitions: two neighbouring questions answered "no" at once, an earlier question at a later value,
+-- and both sides of each limit. Features as long as the limit are given by their length alone, since counting them would
+-- take the prover too long. The order as a whole stands in `WriterOrder` (messages).
 use Prim.Native.Nat.{ℕ, _-_, _*_}
 use mathlib.Core.Bool.{true}
 use mathlib.Core.List.{List, [], _∷_, _++_, map, flatMap}
@@ -51,7 +53,7 @@ good n = replicate n 0x61
 abbrev bad : ℕ → List ℕ
 bad n = replicate n 0xff
 
--- a row: the lengths of agent and name, both from the start of the buffer on; the port; how many feature rows, from the first on
+-- a row: the lengths of agent and name, both from the buffer's start on; the port; how many feature rows, from the first
 abbrev row : ℕ → ℕ → ℕ → ℕ → List ℕ
 row agent name port features = 0 ∷ agent ∷ 6 ∷ 0 ∷ 1 ∷ 0 ∷ name ∷ 0 ∷ 0 ∷ port ∷ 0 ∷ features ∷ []
 
@@ -99,7 +101,7 @@ abbrev inOrder : (Lent → ℕ → ℕ → Write) → List Case
 inOrder w =
     case (w (lent (row 0 0 65536 0) [] []) 0 1) (Refused 16)
     ∷ case (w (lent (row 1 0 0 0) [] []) 0 1) (Refused 12)
-    ∷ case (w (lent (row 256 0 0 0) [] (bad 255)) 0 0) (Refused 12)
+    ∷ case (w (lent (row 257 0 0 0) [] (bad 256)) 0 0) (Refused 12)
     ∷ case (w (lent (row 256 0 0 0) [] (bad 256)) 0 0) (Refused 13)
     ∷ case (w (lent (row 255 0 0 256) (empty 256) (bad 255)) 0 0) (Refused 4)
     ∷ case (w (lent (row 255 0 0 256) (empty 256) (good 255)) 0 0) (Refused 15)
@@ -139,7 +141,7 @@ cases =
     ∷ case (theValues (entryWith [] (good 255) 0 ∷ [])) (To 0)
     ∷ case (theValues (entryWith [] (good 256) 0 ∷ [])) (Refused 13)
     ∷ case (theValues (entryWith [] [] 256 ∷ [])) (Refused 15)
-    -- whole rows, ports below 65,536, versions and feature ids bytes, L 0, 8 or 20; where these are answered "yes" the row is asked for, then the room
+    -- whole rows, ports below 65,536, versions and feature ids bytes, L 0, 8 or 20; if so, is row 0 there, is there room?
     ∷ case (aHandshake (lent [] [] []) 0 0) (Refused 12)
     ∷ case (aHandshake (lent (replicate 11 0) [] []) 0 0) (Refused 16)
     ∷ case (aHandshake (lent (replicate 12 0) [] []) 0 0) (Refused 14)
@@ -167,7 +169,7 @@ unfolding cases saidOf entryWritten handshakeWritten builtWritten built written 
     entryBytes handshakeBytes versionBytes addressBytes featureBytes flatMap vlqBytes vlqIn modeFeature sessionFeature nipopow zigzagEncode
 all-cases = refl
 
--- ---- features as long as the limit, and one byte longer: lists given by their length, which no computing counts
+-- ---- features as long as the limit, and one byte longer
 
 -- one entry, of which the first feature is a given one and the others are empty
 abbrev firstOf : List ℕ → ℕ → EntryValue

@@ -1,4 +1,5 @@
--- Document 01, "Messages" and "Questions", Body: what is read of message bodies at the edges, and the code and bytes of each message.
+-- Document 01, "Messages" and "Questions", Body: what is read of message bodies at the edges, and the code and bytes of
+-- each message.
 use Prim.Native.Nat.{ℕ}
 use mathlib.Core.List.{List, [], _∷_, _++_, map, flatMap}
 use mathlib.Core.Path.{_≡_, refl}

@@ -1,5 +1,7 @@
--- The writes of messages at the edges of their questions (document 01, "Questions", Writers), computed from the definitions: two neighbouring questions answered
--- "no" at once, an earlier question at a later value, and both sides of each limit. Lists as long as the limit of a body are given by their length.
+-- The writes of messages at the edges of their questions (document 01, "Questions", Writers), computed from the
+-- definitions: two neighbouring questions answered "no" at once, an earlier question at a later value, and both sides of
+-- each limit. Features, payloads and bodies as long as the limit are given by their length alone, since counting them
+-- would take the prover too long.
 use Prim.Native.Nat.{ℕ, _*_, _≤_, _<_}
 use native.Mathlib.Omega.{arith}
 use mathlib.Core.List.{List, [], _∷_, _++_, map, flatMap}
@@ -91,7 +93,7 @@ cases =
     -- Peers: two neighbouring questions answered "no"; each line puts the first of the line before it right
     case (peersAt 64 (lent (row 0 65536 0) [] []) 1) (Refused 16)
     ∷ case (peersAt 64 (lent (row 1 0 0) [] []) 1) (Refused 12)
-    ∷ case (peersAt 64 (lent (row 256 0 0) [] (bad 255)) 0) (Refused 12)
+    ∷ case (peersAt 64 (lent (row 257 0 0) [] (bad 256)) 0) (Refused 12)
     ∷ case (peersAt 64 (lent (row 256 0 0) [] (bad 256)) 0) (Refused 13)
     ∷ case (peersAt 0 (lent (row 255 0 256) (empty 256) (bad 255)) 0) (Refused 4)
     ∷ case (peersAt 0 (lent (row 255 0 256) (empty 256) (good 255)) 0) (Refused 15)
@@ -127,7 +129,7 @@ unfolding cases saidOf messageWritten written asked messageAsked messageWhole me
     Tables.rows Tables.entriesOf Tables.tablesWhole Tables.wholeRows Tables.entryNumbers Tables.featureNumbers Tables.entryInside Tables.inside Tables.featureInside Tables.entryOf Tables.featureOf addressOf
 all-cases = refl
 
--- ---- lists as long as the limit, and one byte longer, which no computing counts
+-- ---- features, payloads and bodies as long as the limit, and one byte longer
 
 unfoldable pub longCases : List ℕ → List ℕ → List Case
 longCases most over =

@@ -1,6 +1,6 @@
--- What every writer asks, in order, each question with its number if "no" (document 01, "Questions", Writers). Each is asked over all values written
--- before the next one is, and the first one answered "no" gives the refusal, whatever the later ones would say. The answers that the contracts of the
--- writers cite are the answers to these lists.
+-- What every writer asks, in order, each question with its number if "no" (document 01, "Questions", Writers). Each is
+-- asked over all values written before the next one is, and the first one answered "no" gives the refusal. What the
+-- contracts of the writers cite is the answer to these lists.
 use Prim.Native.Nat.{ℕ, _+_}
 use mathlib.Core.Bool.{false}
 use mathlib.Core.List.{List, [], _∷_, _++_, map}

@@ -1,4 +1,5 @@
--- Sequences at the edges of the table, and the examples of RFC 3629, section 7, computed. The cases of document 01 stand in the crate `edges`.
+-- Sequences at the edges of the table, and the examples of RFC 3629, section 7, computed. The cases of document 01 stand
+-- in the crate `edges`.
 use Prim.Native.Nat.{ℕ}
 use mathlib.Core.Bool.{Bool, true, false}
 use mathlib.Core.List.{List, [], _∷_, map}

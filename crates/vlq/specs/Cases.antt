@@ -1,4 +1,5 @@
--- What is read and written of VLQs and short strings, computed from the definitions, beside the cases of document 01 (crate `edges`). One lemma covers both tables.
+-- What is read and written of VLQs and short strings, computed from the definitions, beside the cases of document 01,
+-- which stand in the crate `edges`. One lemma covers both tables.
 use Prim.Native.Nat.{ℕ, _-_, _^_}
 use mathlib.Core.List.{List, [], _∷_}
 use mathlib.Core.Path.{_≡_, refl}
