@@ -1,4 +1,5 @@
--- Cases of addresses on both networks (document 01, "At the edges": 172.31.255.255 and 172.32.0.0; "Addresses": 0.0.0.1), one lemma for the table.
+-- Cases of addresses on both networks (document 01, "Addresses": 0.0.0.1), beside those of its "At the edges", which
+-- stand in the crate `edges`. One lemma covers the table.
 use Prim.Native.Nat.{ℕ, _/_, _%_, _^_}
 use mathlib.Core.Path.{_≡_, refl}
 use mathlib.Core.List.{List, [], _∷_, map}
@@ -23,8 +24,9 @@ v6 a = V6 (a / 2 ^ 64) (a % 2 ^ 64) 9030
 
 unfoldable pub cases : List Case
 cases =
-    record { address = v4 (ipv4 172 31 255 255); mainnet = true; testnet = false }
-    ∷ record { address = v4 (ipv4 172 32 0 0); mainnet = false; testnet = false }
+    record { address = v4 (ipv4 172 15 255 255); mainnet = false; testnet = false }
+    ∷ record { address = v4 (ipv4 172 16 0 0); mainnet = true; testnet = false }
+    ∷ record { address = v4 (ipv4 172 31 0 0); mainnet = true; testnet = false }
     ∷ record { address = v4 (ipv4 0 0 0 1); mainnet = false; testnet = false }
     ∷ record { address = v4 (ipv4 0 0 0 0); mainnet = true; testnet = true }
     ∷ record { address = v4 (ipv4 255 255 255 255); mainnet = true; testnet = true }

@@ -1,4 +1,4 @@
--- Document 01, "At the edges" and the traps below it: the cases of entries and handshakes, as one table of bytes with what is said of them.
+-- Document 01, "Entries and handshakes" and the traps below "At the edges": a table of bytes with what is said of them.
 use Prim.Native.Nat.{ℕ}
 use mathlib.Core.List.{List, [], _∷_, _++_, map}
 use mathlib.Core.Option.{Option, none, some}
@@ -67,13 +67,16 @@ sixteen = 0x20 ∷ 1 ∷ 0xd ∷ 0xb8 ∷ 0 ∷ 0 ∷ 0 ∷ 0 ∷ 0 ∷ 0 ∷ 0 
 
 unfoldable pub cases : List Case
 cases =
-    -- the port is kept modulo 65,536
-    case (anAddress (8 ∷ 10 ∷ 0 ∷ 0 ∷ 1 ∷ 0x80 ∷ 0x80 ∷ 4 ∷ [])) (addressTo (V4 0x0a000001 0) 8)
+    -- the port is kept modulo 65,536: 65,535, 65,536 and one more
+    case (anAddress (8 ∷ 10 ∷ 0 ∷ 0 ∷ 1 ∷ 0xff ∷ 0xff ∷ 3 ∷ [])) (addressTo (V4 0x0a000001 65535) 8)
+    ∷ case (anAddress (20 ∷ (sixteen ++ (0x80 ∷ 0x80 ∷ 4 ∷ [])))) (addressTo (V6 0x20010db800000000 9 0) 20)
+    ∷ case (anAddress (8 ∷ 10 ∷ 0 ∷ 0 ∷ 1 ∷ 0x81 ∷ 0x80 ∷ 4 ∷ [])) (addressTo (V4 0x0a000001 1) 8)
     -- L = 8 and L = 20, by value; the last byte is not the address's
     ∷ case (anAddress (8 ∷ 10 ∷ 0 ∷ 0 ∷ 1 ∷ 0xce ∷ 0x46 ∷ 7 ∷ [])) (addressTo (V4 0x0a000001 9038) 7)
     ∷ case (anAddress (20 ∷ (sixteen ++ (0xce ∷ 0x46 ∷ 7 ∷ [])))) (addressTo (V6 0x20010db800000000 9 9038) 19)
     -- any other L: no address, its bytes and port consumed
-    ∷ case (anAddress (3 ∷ 0 ∷ [])) (addressTo None 2)
+    ∷ case (anAddress (4 ∷ 0 ∷ [])) (addressTo None 2)
+    ∷ case (anAddress (5 ∷ 0 ∷ 0 ∷ [])) (addressTo None 3)
     ∷ case (anAddress (7 ∷ 1 ∷ 2 ∷ 3 ∷ 0xce ∷ 0x46 ∷ 7 ∷ [])) (addressTo None 6)
     ∷ case (anAddress (21 ∷ 1 ∷ (sixteen ++ (0xce ∷ 0x46 ∷ 7 ∷ [])))) (addressTo None 20)
     -- a feature's length is under the limit: 16,388,608 is asked for bytes, one more is refused
@@ -97,8 +100,8 @@ cases =
     }) 11)
     ∷ case (aHandshake (0xac ∷ 2 ∷ 2 ∷ 0x61 ∷ 0x62 ∷ 6 ∷ 0 ∷ 1 ∷ 0 ∷ 0 ∷ [])) (refusal 1)
     -- 1 if the version is below 4.0.100
-    ∷ case (aVerdict Mainnet (plain 4 0 99 0 [])) (verdict 1)
-    ∷ case (aVerdict Mainnet (plain 4 0 100 0 [])) (verdict 0)
+    ∷ case (aVerdict Mainnet (plain 3 255 255 0 [])) (verdict 1)
+    ∷ case (aVerdict Mainnet (plain 4 1 0 0 [])) (verdict 0)
     ∷ case (aVerdict Mainnet (plain 4 0 99 1 (3 ∷ 4 ∷ 2 ∷ 3 ∷ 2 ∷ 3 ∷ []))) (verdict 1)
     -- 2 if the first feature 3 has at least four body bytes and they aren't the magic
     ∷ case (aVerdict Mainnet (plain 4 0 100 1 (3 ∷ 4 ∷ 2 ∷ 3 ∷ 2 ∷ 3 ∷ []))) (verdict 2)

@@ -16,3 +16,4 @@ pub mod ByIndexLaws
 pub mod PuttingLaws
 pub mod WritesLaws
 pub mod ModeCases
+pub mod OrderCases

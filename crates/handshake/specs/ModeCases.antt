@@ -1,4 +1,4 @@
--- Document 01, "At the edges": the features that `build` writes, computed from the definitions.
+-- The features that `build` writes, computed from the definitions.
 use Prim.Native.Nat.{ℕ}
 use mathlib.Core.Bool.{Bool, true, false}
 use mathlib.Core.List.{List, [], _∷_, map}
@@ -43,15 +43,14 @@ configOf c =
 
 unfoldable pub cases : List Case
 cases =
-    -- Mode, Full, 0, verifying, -1: 00 01 00 01
     record {
       network = Mainnet;
       mode = Full;
-      stateType = 0;
+      stateType = 2;
       verifying = true;
-      blocksToKeep = negsuc 0;
+      blocksToKeep = negsuc 1;
       sessionId = pos 0;
-      modeBody = 0 ∷ 1 ∷ 0 ∷ 1 ∷ [];
+      modeBody = 2 ∷ 1 ∷ 0 ∷ 3 ∷ [];
       sessionBody = 1 ∷ 0 ∷ 2 ∷ 4 ∷ 0 ∷ [];
     }
     ∷ record {

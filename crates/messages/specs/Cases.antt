@@ -1,4 +1,5 @@
--- Document 01, "At the edges", "Messages" and "Questions", Body: what is read of message bodies at the edges, and the code and bytes of each message.
+-- Document 01, "Messages" and "Questions", Body: what is read of message bodies at the edges, and the code and bytes of
+-- each message.
 use Prim.Native.Nat.{ℕ}
 use mathlib.Core.List.{List, [], _∷_, _++_, map, flatMap}
 use mathlib.Core.Path.{_≡_, refl}
@@ -28,11 +29,8 @@ id = replicate 32 0xab
 
 unfoldable pub cases : List Case
 cases =
-    -- Inv: a type byte, a count of at most 400, ids
-    case 64 55 (2 ∷ 0 ∷ []) (got (inv 2 []) 2)
-    ∷ case 64 55 (2 ∷ 0x91 ∷ 0x03 ∷ []) (refused 10)
-    ∷ case 64 55 (2 ∷ 0x90 ∷ 0x03 ∷ []) (refused 1)
-    ∷ case 64 55 [] (refused 1)
+    -- Inv: a type byte, a count, ids
+    case 64 55 [] (refused 1)
     -- 3 is asked before 10
     ∷ case 64 55 (2 ∷ 0x80 ∷ 0xa4 ∷ 0xe8 ∷ 0x07 ∷ []) (refused 10)
     ∷ case 64 55 (2 ∷ 0x81 ∷ 0xa4 ∷ 0xe8 ∷ 0x07 ∷ []) (refused 3)
@@ -41,17 +39,21 @@ cases =
     ∷ case 64 55 (2 ∷ 1 ∷ (id ++ (7 ∷ 7 ∷ []))) (got (inv 2 (record { start = 2; bytes = id } ∷ [])) 34)
     -- ModifierRequest: the same under its own code
     ∷ case 64 22 (2 ∷ 1 ∷ id) (got (modifierRequest 2 (record { start = 2; bytes = id } ∷ [])) 34)
+    ∷ case 64 22 (2 ∷ 0 ∷ []) (got (modifierRequest 2 []) 2)
+    ∷ case 64 22 (2 ∷ 0x90 ∷ 0x03 ∷ []) (refused 1)
     ∷ case 64 22 (2 ∷ 0x91 ∷ 0x03 ∷ []) (refused 10)
     -- ModifierResponse: a body of 35 bytes with one payload, declared longer than the body, and as long
     ∷ case 64 33 (2 ∷ 1 ∷ (id ++ (36 ∷ []))) (refused 11)
     ∷ case 64 33 (2 ∷ 1 ∷ (id ++ (35 ∷ []))) (refused 1)
-    -- 3 is asked before 11
+    -- 3 is asked before 11: the limit, and one more
+    ∷ case 64 33 (2 ∷ 1 ∷ (id ++ (0x80 ∷ 0xa4 ∷ 0xe8 ∷ 0x07 ∷ []))) (refused 11)
     ∷ case 64 33 (2 ∷ 1 ∷ (id ++ (0x81 ∷ 0xa4 ∷ 0xe8 ∷ 0x07 ∷ []))) (refused 3)
     -- the lengths are added up, the last one included: in a body of 69 bytes a payload of 1 byte, then one declared 69 or 68
     ∷ case 64 33 (2 ∷ 2 ∷ (id ++ (1 ∷ 7 ∷ (id ++ (69 ∷ []))))) (refused 11)
     ∷ case 64 33 (2 ∷ 2 ∷ (id ++ (1 ∷ 7 ∷ (id ++ (68 ∷ []))))) (refused 1)
     ∷ case 64 33 (2 ∷ 1 ∷ (id ++ (1 ∷ 7 ∷ 7 ∷ [])))
     (got (modifierResponse 2 (record { id = record { start = 2; bytes = id }; body = record { start = 35; bytes = 7 ∷ [] } } ∷ [])) 36)
+    ∷ case 64 33 (2 ∷ 0x90 ∷ 0x03 ∷ []) (refused 1)
     ∷ case 64 33 (2 ∷ 0x91 ∷ 0x03 ∷ []) (refused 10)
     -- Peers: the cap, which may be above 400
     ∷ case 64 2 (0 ∷ []) (got (peers []) 1)

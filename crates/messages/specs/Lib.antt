@@ -6,4 +6,6 @@ pub mod PlacesLaws
 pub mod Cases
 pub mod Writes
 pub mod WritesLaws
+pub mod WriterOrder
+pub mod OrderCases
 pub mod Bogus

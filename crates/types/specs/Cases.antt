@@ -1,4 +1,5 @@
--- Cases of the order of versions (document 01, "At the edges": 4.0.99 and 4.0.100) and of the conversion of places, one lemma for each table.
+-- Cases of the order of versions, beside the least one that a handshake may have, and of the conversion of places, one
+-- lemma for each table.
 use Prim.Native.Nat.{ℕ, _-_, _^_}
 use mathlib.Core.Path.{_≡_, refl}
 use mathlib.Core.List.{List, [], _∷_, map}

@@ -1,4 +1,5 @@
--- The cases of document 01 that are UTF-8 alone, and the examples of RFC 3629, section 7, computed.
+-- Sequences at the edges of the table, and the examples of RFC 3629, section 7, computed. The cases of document 01 stand
+-- in the crate `edges`.
 use Prim.Native.Nat.{ℕ}
 use mathlib.Core.Bool.{Bool, true, false}
 use mathlib.Core.List.{List, [], _∷_, map}
@@ -10,12 +11,13 @@ pub record Case : Type 0 where
   pub bytes : List ℕ
   pub answer : Bool
 
--- document 01, "At the edges"
+-- the first sequence of two, the longest overlong one; the last before the surrogates, the last of them
 unfoldable pub cases : List Case
 cases =
-    record { bytes = 0xc3 ∷ 0xa9 ∷ []; answer = true }
-    ∷ record { bytes = 0xc0 ∷ 0x80 ∷ []; answer = false }
-    ∷ record { bytes = 0xed ∷ 0xa0 ∷ 0x80 ∷ []; answer = false }
+    record { bytes = 0xc2 ∷ 0x80 ∷ []; answer = true }
+    ∷ record { bytes = 0xc1 ∷ 0xbf ∷ []; answer = false }
+    ∷ record { bytes = 0xed ∷ 0x9f ∷ 0xbf ∷ []; answer = true }
+    ∷ record { bytes = 0xed ∷ 0xbf ∷ 0xbf ∷ []; answer = false }
     ∷ []
 
 pub cases-hold : map (λ (c : Case). utf8 (c .bytes)) cases ≡ map (λ (c : Case). c .answer) cases

@@ -1,4 +1,4 @@
--- The zigzag cases of document 01, "At the edges", computed, with 0 and the lowest i32.
+-- Zigzag of small numbers and at the ends of 32 and 64 bits, computed, beside the cases of document 01 (crate `edges`).
 use Prim.Native.Nat.{ℕ, _-_, _^_}
 use mathlib.Core.List.{List, [], _∷_, map}
 use mathlib.Core.Path.{_≡_, refl}
@@ -12,11 +12,11 @@ pub record Case : Type 0 where
 unfoldable pub cases : List Case
 cases =
     record { number = pos 0; code = 0 }
-    ∷ record { number = negℤ (pos 1); code = 1 }
-    ∷ record { number = pos 1; code = 2 }
     ∷ record { number = negℤ (pos 2); code = 3 }
+    ∷ record { number = pos 2; code = 4 }
+    ∷ record { number = pos (2 ^ 31 - 1); code = 2 ^ 32 - 2 }
     ∷ record { number = negℤ (pos (2 ^ 31)); code = 2 ^ 32 - 1 }
-    ∷ record { number = negℤ (pos (2 ^ 63)); code = 2 ^ 64 - 1 }
+    ∷ record { number = pos (2 ^ 63 - 1); code = 2 ^ 64 - 2 }
     ∷ []
 
 pub cases-encode : map (λ (c : Case). zigzagEncode (c .number)) cases ≡ map (λ (c : Case). c .code) cases

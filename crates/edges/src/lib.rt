@@ -1,0 +1,1 @@
+// The cases of document 01 at the edges.
