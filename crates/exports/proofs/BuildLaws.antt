@@ -70,7 +70,7 @@ module _ (kind high low : ℕ) where
 
   pub build-refused : addressNumbers kind high low ≡ false → (c : writes.Config) (out : List ℕ) (at : ℕ) (array bs : List ℕ)
       → (16 ≡ writtenNumber (builtFromWritten kind high low c out at))
-        × ((array ≡ endAfter (builtFromWritten kind high low c out at) array) × (out ≡ outputAfter (builtFromWritten kind high low c out at) out at bs))
+      × ((array ≡ endAfter (builtFromWritten kind high low c out at) array) × (out ≡ outputAfter (builtFromWritten kind high low c out at) out at bs))
   build-refused fails c out at array bs =
       let said = asked-no fails c out at in
       writer-refused array out at bs (refl, after-refused at bs said) said

@@ -5,12 +5,12 @@ ghost use lib.ListN.{length};
 use libc::STDIN_FILENO;
 use libc::STDOUT_FILENO;
 
-mod cursor;
 mod input;
 mod print;
 mod readers;
 mod results;
 mod shape;
+mod tables;
 mod writers;
 
 // A file of cases has at most 120,000 bytes.
@@ -80,13 +80,9 @@ fn print_case(n: u64, case: &[u8]) -> bool {
 
 // The functions by their numbers.
 fn answer(function: u8, s: &[u8], bytes: &[u8]) {
-    if function <= 5 {
-        cursor::answer(function, s, bytes);
-    } else if function <= 8 {
-        writers::answer(function, s, bytes);
-    } else if function <= 17 {
-        results::answer(function, s);
-    } else {
-        readers::answer(function, s, bytes);
+    match function {
+        9..=17 => results::answer(function, s),
+        6..=8 | 34..=45 => writers::answer(function, s, bytes),
+        _ => readers::answer(function, s, bytes),
     }
 }
