@@ -34,18 +34,23 @@ pub(crate) fn after_table(s: &[u8]) -> &[u8] {
     bytes_from(s, 4 + 4 * table_len(s))
 }
 
+// How many numbers it has: as many as its length says and are there.
 fn table_len(s: &[u8]) -> usize
     ensures { λ r. ⌜ r ≤ 1206 ⌝ }
 {
-    let n = word(s, 0) as usize;
+    let n = least(word(s, 0) as usize, bytes_from(s, 4).len() / 4);
     if n <= MOST { n } else { MOST }
 }
 
-// The string that s begins with.
+// The string that s begins with: as many bytes as its length says and are there.
 pub(crate) fn string(s: &[u8]) -> &[u8] {
-    bytes_at(s, 4, word(s, 0) as usize)
+    bytes_at(s, 4, least(word(s, 0) as usize, bytes_from(s, 4).len()))
 }
 
 pub(crate) fn after_string(s: &[u8]) -> &[u8] {
-    bytes_from(s, 4 + string(s).len())
+    bytes_from(bytes_from(s, 4), string(s).len())
+}
+
+fn least(a: usize, b: usize) -> usize {
+    if a <= b { a } else { b }
 }

@@ -78,7 +78,21 @@ fn edges() -> Vec<Case> {
     for cut in 0..=bytes.len() {
         edges.extend([0, 1].map(|mainnet| Case::new(&[mainnet, 64], &bytes[..cut])));
     }
-    let bodies: [(u8, &[u8]); 12] = [
+    // Each kind with different numbers: of Peers three entries, two of them bogus.
+    let peers = [
+        &[3, 0, 4, 0, 100, 0, 1, 8, 10, 0, 0, 1, 9, 0][..],
+        &[0, 4, 0, 100, 0, 1, 8, 8, 8, 8, 8, 9, 0, 0, 4, 0, 100, 0, 1, 8, 127, 0, 0, 1, 9, 0],
+    ]
+    .concat();
+    let ids = [&[9, 2][..], &[7; 64]].concat();
+    let payloads = [&[9, 2][..], &[7; 32], &[1, 5], &[8; 32], &[3, 5, 6, 7]].concat();
+    let bodies: [(u8, &[u8]); 18] = [
+        (2, &peers),
+        (22, &ids),
+        (33, &payloads),
+        (55, &ids),
+        (65, &ids),
+        (77, &payloads),
         (2, &[0]),
         (2, &[1, 0, 4, 0, 100, 0, 1, 8, 10, 0, 0, 1, 9, 0]),
         (2, &[2]),
