@@ -33,7 +33,7 @@ enum {
     HASPELJO_LONG_STRING = 13,   /* a string has more than 255 bytes */
     HASPELJO_NO_ROOM = 14,       /* the output is too short */
     HASPELJO_UNWRITABLE = 15,    /* more than 255 features, or an Unknown with a known code */
-    HASPELJO_BAD_TABLE = 16      /* a table has a broken row */
+    HASPELJO_BAD_TABLE = 16      /* a table has a broken row, or numbers are no address */
 };
 
 /* The first number of a step. */
@@ -206,7 +206,8 @@ uint8_t haspeljo_write_handshake(uint8_t *out, size_t n, size_t at, uint64_t tim
     const uint32_t *features, size_t features_n, const uint8_t *buffer, size_t buffer_n, size_t index, uint64_t r[1]);
 
 /* A handshake with the features Mode and Session. light is 0 for a full node, verifying 0 for one that does not verify. kind, high, low and port
- * are the address as haspeljo_parse gives it; a kind other than 4 and 6 is none. Refuses 12, 13, 4, 14. */
+ * are the address as haspeljo_parse gives it: 16 for a kind other than 0, 4 and 6, and of IPv4 for a high above 2^32 - 1 or a low other than 0;
+ * of no address they are not looked at. Refuses 16, 12, 13, 4, 14. */
 uint8_t haspeljo_build(uint8_t *out, size_t n, size_t at, uint8_t mainnet, uint8_t light, uint8_t statetype, uint8_t verifying, int32_t blocks,
     uint8_t major, uint8_t minor, uint8_t patch, uint8_t kind, uint64_t high, uint64_t low, uint16_t port, uint64_t timestamp, int64_t session,
     const uint8_t *agent, size_t agent_n, const uint8_t *name, size_t name_n, uint64_t r[1]);

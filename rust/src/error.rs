@@ -74,7 +74,9 @@ impl Error {
             Error::Unwritable => {
                 "an entry has more than 255 features, or an unknown message a known code"
             }
-            Error::BadTable => "a table has a broken row, or a number that does not fit its column",
+            Error::BadTable => {
+                "a table has a broken row, or a number that does not fit its column or address"
+            }
         }
     }
 }

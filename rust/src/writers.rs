@@ -247,4 +247,61 @@ mod tests {
         }
         assert_eq!(out, [0x5a; 200]);
     }
+
+    const CONFIG: HandshakeConfig = HandshakeConfig {
+        agent_name: "ergoref",
+        peer_name: "me",
+        version: Version::new(6, 0, 1),
+        network: Network::Mainnet,
+        mode: ProxyMode::Full,
+        declared_address: None,
+        state_type_id: 0,
+        verifying: true,
+        blocks_to_keep: -1,
+        timestamp: 1,
+        session_id: 1,
+    };
+
+    /// What `build` answers of these numbers of an address, in every output: 16 is asked first.
+    fn built(address: (u8, u64, u64, u16)) -> Option<Error> {
+        let mut out = [0x5a; 200];
+        let error = calls::build(&mut out, 0, &CONFIG, address).err()?;
+        for (at, room) in [(201, 200), (0, 0)] {
+            let answer = calls::build(&mut out[..room], at, &CONFIG, address);
+            assert_eq!(answer, Err(error));
+        }
+        assert_eq!(out, [0x5a; 200]);
+        Some(error)
+    }
+
+    #[test]
+    fn an_unknown_kind_of_address() {
+        for kind in (0..=255).filter(|kind| ![0, 4, 6].contains(kind)) {
+            assert_eq!(built((kind, 0, 0, 9030)), Some(Error::BadTable));
+        }
+    }
+
+    #[test]
+    fn an_ipv4_number_above_32_bits() {
+        for high in [1 << 32, (1 << 32) + 1, u64::MAX] {
+            assert_eq!(built((4, high, 0, 9030)), Some(Error::BadTable));
+        }
+        assert_eq!(built((4, (1 << 32) - 1, 0, 9030)), None);
+    }
+
+    #[test]
+    fn an_ipv4_number_with_a_low_half() {
+        for low in [1, u64::MAX] {
+            assert_eq!(built((4, 0x0808_0808, low, 9030)), Some(Error::BadTable));
+        }
+    }
+
+    #[test]
+    fn numbers_beside_no_address() {
+        let written = [(0, 0, 0, 0), (0, u64::MAX, u64::MAX, 9030)].map(|address| {
+            let mut out = [0x5a; 200];
+            (calls::build(&mut out, 0, &CONFIG, address).unwrap(), out)
+        });
+        assert_eq!(written[0], written[1]);
+    }
 }

@@ -1,12 +1,18 @@
 -- What `build` is given, from numbers.
-use Prim.Native.Nat.{ℕ, zero, suc, _%_, _^_}
-use mathlib.Core.Bool.{Bool, true, false, cond}
-use lib.Dec.{eqb}
+use Prim.Native.Nat.{ℕ, zero, suc, _^_}
+use mathlib.Core.Bool.{Bool, true, false, cond, _||_, _&&_}
+use mathlib.Core.List.{List, [], _∷_}
+use lib.Dec.{eqb, ltb}
 use lib.IntN.{ℤ}
+use Rattle.wire.specs.Output.{ask, written}
+use Rattle.wire.specs.declared.Written.{Written}
 use Rattle.types.specs.declared.ProxyMode.{ProxyMode}
 use Rattle.types.specs.declared.ProxyMode.the-variants.{Full, Light}
 use Rattle.types.specs.declared.Address.{Address}
 use Rattle.types.specs.declared.Address.the-variants.{None, V4, V6}
+use Rattle.handshake.specs.Value.{handshakeBytes, entriesAsked}
+use Rattle.handshake.specs.Writes.{built}
+use Rattle.handshake.specs.Writes as writes
 use Rattle.handshake_build.specs.declared.Config.{Config}
 use Rattle.export_arrays.specs.Networks.{networkOf}
 
@@ -19,9 +25,13 @@ unfoldable pub modeOf : ℕ → ProxyMode
 modeOf zero = Full
 modeOf (suc n) = Light
 
--- 4 or 6, with the address's number, of IPv6 its two halves; any other kind is none
+-- 4 or 6, with the address's number, of IPv6 its two halves; otherwise none
 unfoldable pub addressFrom : ℕ → ℕ → ℕ → ℕ → Address
-addressFrom kind high low port = cond (eqb kind 4) (V4 (high % 2 ^ 32) port) (cond (eqb kind 6) (V6 high low port) None)
+addressFrom kind high low port = cond (eqb kind 4) (V4 high port) (cond (eqb kind 6) (V6 high low port) None)
+
+-- 16: is the kind 0, 6, or 4 with a number below 2^32 and no low half? Beside no address the numbers are not looked at.
+unfoldable pub addressNumbers : ℕ → ℕ → ℕ → Bool
+addressNumbers kind high low = eqb kind 0 || eqb kind 6 || eqb kind 4 && ltb high (2 ^ 32) && eqb low 0
 
 abbrev pub builtFrom : ℕ → ℕ → ℕ → ℕ → ℤ → ℕ → ℕ → ℕ → ℕ → ℕ → ℕ → ℕ → ℕ → ℤ → Config
 builtFrom mainnet light statetype verifying blocks major minor patch kind high low port timestamp session =
@@ -36,3 +46,8 @@ builtFrom mainnet light statetype verifying blocks major minor patch kind high l
       timestamp = timestamp;
       session = session;
     }
+
+-- what is said of numbers: 16 of those of the address, then all that `build` asks
+unfoldable pub builtFromWritten : ℕ → ℕ → ℕ → writes.Config → List ℕ → ℕ → Written
+builtFromWritten kind high low c out at =
+    written (ask 16 (addressNumbers kind high low) ∷ []) (entriesAsked (built c .entry ∷ [])) out at (handshakeBytes (built c))

@@ -18,8 +18,8 @@ ghost use Rattle.exports.specs.Results.{numberOf, arrayAfter, valueNext,
 pub mod bodies;
 pub mod frames;
 pub mod handshakes;
-mod sessions;
-mod writers;
+pub mod sessions;
+pub mod writers;
 
 use export_arrays::network_of;
 use types::Address;

@@ -1,16 +1,17 @@
 // Writers for Rust and C, each from a place of a lent output. r is the place after what was written.
+ghost use mathlib.Core.Bool.{true};
 ghost use mathlib.Core.Path.{_≡_};
 ghost use Rattle.wire.specs.Output.{outputAfter};
 ghost use Rattle.frame.specs.Frame.{frameBytes};
 ghost use Rattle.frame.specs.Writes.{frameWritten};
 ghost use Rattle.handshake.specs.Value.{entryBytes, handshakeBytes};
 ghost use Rattle.handshake.specs.Tables.{lent};
-ghost use Rattle.handshake.specs.Writes.{entryAt, entryWritten, handshakeAt, handshakeWritten, built, builtWritten};
+ghost use Rattle.handshake.specs.Writes.{entryAt, entryWritten, handshakeAt, handshakeWritten, built};
 ghost use Rattle.handshake_build.specs.Parts.{configOf};
 ghost use Rattle.messages.specs.Writes.{writeGetPeers, writePeers, writeModifierRequest, writeModifierResponse, writeInv, writeSyncInfo, writeUnknown, valueOf, messageBytes, messageWritten};
 ghost use Rattle.export_arrays.specs.Networks.{networkOf};
 ghost use Rattle.exports.specs.Results.{writtenNumber, endAfter};
-ghost use Rattle.exports.specs.Configs.{isSet, modeOf, addressFrom, builtFrom};
+ghost use Rattle.exports.specs.Configs.{isSet, modeOf, addressFrom, addressNumbers, builtFrom, builtFromWritten};
 use handshake_build::Config;
 use types::Address;
 use types::ProxyMode;
@@ -275,7 +276,7 @@ pub extern "C" fn haspeljo_write_unknown(
 }
 
 // A handshake with the features Mode and Session. light is 0 for a full node, verifying 0 for one that does not verify. The address is as
-// haspeljo_parse gives it; a kind other than 4 and 6 is none.
+// haspeljo_parse gives it; 16 where the kind is not 0, 4 or 6, or an IPv4 address has a number above 32 bits or a low half.
 #[no_mangle]
 pub extern "C" fn haspeljo_build(
     out: &mut [u8],
@@ -298,10 +299,13 @@ pub extern "C" fn haspeljo_build(
     name: &[u8],
     r: &mut [u64; 1],
 ) -> u8
-    ensures { λ n. ⌜ n ≡ writtenNumber (builtWritten (configOf (builtFrom mainnet light statetype verifying blocks major minor patch kind high low port timestamp session) (now (agent .entry)) (now (name .entry))) (now (out .entry)) at) ⌝ }
-    ensures { λ n. ⌜ now (r .exit) ≡ endAfter (builtWritten (configOf (builtFrom mainnet light statetype verifying blocks major minor patch kind high low port timestamp session) (now (agent .entry)) (now (name .entry))) (now (out .entry)) at) (now (r .entry)) ⌝ }
-    ensures { λ n. ⌜ now (out .exit) ≡ outputAfter (builtWritten (configOf (builtFrom mainnet light statetype verifying blocks major minor patch kind high low port timestamp session) (now (agent .entry)) (now (name .entry))) (now (out .entry)) at) (now (out .entry)) at (handshakeBytes (built (configOf (builtFrom mainnet light statetype verifying blocks major minor patch kind high low port timestamp session) (now (agent .entry)) (now (name .entry))))) ⌝ }
+    ensures { λ n. ⌜ n ≡ writtenNumber (builtFromWritten kind high low (configOf (builtFrom mainnet light statetype verifying blocks major minor patch kind high low port timestamp session) (now (agent .entry)) (now (name .entry))) (now (out .entry)) at) ⌝ }
+    ensures { λ n. ⌜ now (r .exit) ≡ endAfter (builtFromWritten kind high low (configOf (builtFrom mainnet light statetype verifying blocks major minor patch kind high low port timestamp session) (now (agent .entry)) (now (name .entry))) (now (out .entry)) at) (now (r .entry)) ⌝ }
+    ensures { λ n. ⌜ now (out .exit) ≡ outputAfter (builtFromWritten kind high low (configOf (builtFrom mainnet light statetype verifying blocks major minor patch kind high low port timestamp session) (now (agent .entry)) (now (name .entry))) (now (out .entry)) at) (now (out .entry)) at (handshakeBytes (built (configOf (builtFrom mainnet light statetype verifying blocks major minor patch kind high low port timestamp session) (now (agent .entry)) (now (name .entry))))) ⌝ }
 {
+    if !is_address(kind, high, low) {
+        return 16;
+    }
     let network = crate::network_of(mainnet);
     let mode = mode_of(light);
     let verifies = is_set(verifying);
@@ -343,11 +347,19 @@ fn mode_of(light: u8) -> ProxyMode
     }
 }
 
+// Is it an address as haspeljo_parse gives it, or none?
+fn is_address(kind: u8, high: u64, low: u64) -> bool
+    ensures { λ r. ⌜ r ≡ addressNumbers kind high low ⌝ }
+{
+    (kind == 0) | (kind == 6) | (kind == 4) & (high < 0x1_0000_0000) & (low == 0)
+}
+
 fn address_from(kind: u8, high: u64, low: u64, port: u16) -> Address
+    requires { ⌜ addressNumbers kind high low ≡ true ⌝ }
     ensures { λ r. ⌜ r ≡ addressFrom kind high low port ⌝ }
 {
     if kind == 4 {
-        return Address::V4((high % 4_294_967_296) as u32, port);
+        return Address::V4(high as u32, port);
     }
     if kind == 6 {
         return Address::V6(high, low, port);

@@ -1,4 +1,4 @@
-// The input of a case: numbers of eight bytes each, little-endian, then bytes.
+// The input of a case: numbers of eight bytes each, little-endian, then bytes. A number is taken modulo 2^k where its type has k bits.
 ghost use Prim.Native.Nat.{_+_, _<_, _≤_};
 ghost use lib.ListN.{length};
 
@@ -18,9 +18,46 @@ pub(crate) fn size(s: &[u8], at: usize) -> usize {
     number(s, at) as usize
 }
 
-// The number at a place as a network or code, which is at most 255.
+// The number at a place as a byte.
 pub(crate) fn small(s: &[u8], at: usize) -> u8 {
     (number(s, at) % 0x100) as u8
+}
+
+pub(crate) fn low_16(x: u64) -> u16 {
+    (x % 0x1_0000) as u16
+}
+
+pub(crate) fn low_32(x: u64) -> u32 {
+    (x % 0x1_0000_0000) as u32
+}
+
+// The number of which x is the two's complement, `!n` being -1 - n.
+pub(crate) fn signed_64(x: u64) -> i64 {
+    if x < 0x8000_0000_0000_0000 {
+        x as i64
+    } else {
+        !((u64::MAX - x) as i64)
+    }
+}
+
+// The same at 32 bits.
+pub(crate) fn signed_32(x: u32) -> i32 {
+    if x < 0x8000_0000 {
+        x as i32
+    } else {
+        !((u32::MAX - x) as i32)
+    }
+}
+
+// The number of four bytes at a place; 0 where they are not there.
+pub(crate) fn word(s: &[u8], at: usize) -> u32 {
+    if s.len() < 4 {
+        return 0;
+    }
+    if s.len() - 4 < at {
+        return 0;
+    }
+    low_32(half(s, at))
 }
 
 // The bytes from a place on; none where the place is not inside.
@@ -38,14 +75,6 @@ pub(crate) fn bytes_at(s: &[u8], at: usize, n: usize) -> &[u8] {
     }
     let end = at + n;
     &s[at..end]
-}
-
-// The bytes from a place to another; none where they are not inside.
-pub(crate) fn bytes_between(s: &[u8], start: usize, end: usize) -> &[u8] {
-    if end < start {
-        return &s[..0];
-    }
-    bytes_at(s, start, end - start)
 }
 
 // The number of two bytes at a place.

@@ -5,19 +5,19 @@ ghost use lib.ListN.{length};
 use libc::STDIN_FILENO;
 use libc::STDOUT_FILENO;
 
-mod cursor;
 mod input;
 mod print;
 mod readers;
 mod results;
 mod shape;
+mod tables;
 mod writers;
 
-// A file of cases has at most 120,000 bytes.
-const MOST: usize = 120_000;
+// A file of cases has at most 240,000 bytes.
+const MOST: usize = 240_000;
 
 fn main() {
-    let mut cases = [0u8; 120_001];
+    let mut cases = [0u8; 240_001];
     let n = io::read_full(STDIN_FILENO, &mut cases);
     if MOST < n {
         print_bad();
@@ -80,13 +80,9 @@ fn print_case(n: u64, case: &[u8]) -> bool {
 
 // The functions by their numbers.
 fn answer(function: u8, s: &[u8], bytes: &[u8]) {
-    if function <= 5 {
-        cursor::answer(function, s, bytes);
-    } else if function <= 8 {
-        writers::answer(function, s, bytes);
-    } else if function <= 17 {
-        results::answer(function, s);
-    } else {
-        readers::answer(function, s, bytes);
+    match function {
+        9..=17 => results::answer(function, s),
+        6..=8 | 34..=45 => writers::answer(function, s, bytes),
+        _ => readers::answer(function, s, bytes),
     }
 }

@@ -30,11 +30,6 @@ pub(crate) fn signed(n: i64) {
     }
 }
 
-// A space, then 1 or 0.
-pub(crate) fn flag(b: bool) {
-    number(if b { 1 } else { 0 });
-}
-
 // A space, then bytes in hexadecimal, none being `-`.
 pub(crate) fn bytes(s: &[u8]) {
     if s.len() == 0 {
@@ -43,11 +38,6 @@ pub(crate) fn bytes(s: &[u8]) {
         text(b" ");
         hex(s);
     }
-}
-
-pub(crate) fn refused(m: u8) {
-    text(b" refused");
-    number(m as u64);
 }
 
 // Below 0, -n is one more than -1 - n, which no n overflows.

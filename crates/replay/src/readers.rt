@@ -1,26 +1,29 @@
-// The cases of the readers of entries, handshakes, frames and message bodies: numbers, then the bytes that are read. The answer is the numbers
-// of the reader's result array, or the refusal.
+// The readers' cases: numbers, then the bytes that are read. The answer is the number and the result array, slot by slot, which holds 7 all over
+// before the call.
 use crate::input::size;
 use crate::input::small;
 use crate::print;
 use exports::bodies;
 use exports::frames;
 use exports::handshakes;
+use exports::sessions;
 
 // The functions by the length of their arrays; a is the first number.
 pub(crate) fn answer(function: u8, s: &[u8], bytes: &[u8]) {
     let a = size(s, 0);
     match function {
         19 | 30 => one(function, bytes, a),
-        23 | 24 => two(function, s, bytes, a),
+        1..=3 | 23 | 24 => two(function, s, bytes, a),
+        4 | 5 => three(function, s, bytes, a),
         21 | 22 | 25 | 26 | 32 => four(function, s, bytes, a),
         27 | 28 | 31 => five(function, s, bytes, a),
+        33 => step(s, bytes, a),
         _ => fifteen(function, s, bytes, a),
     }
 }
 
 fn one(function: u8, bytes: &[u8], a: usize) {
-    let mut r = [0u64; 1];
+    let mut r = [7u64; 1];
     let m = match function {
         19 => handshakes::haspeljo_measure_size(bytes, &mut r),
         _ => bodies::haspeljo_id_by_index(bytes, a, &mut r),
@@ -29,16 +32,28 @@ fn one(function: u8, bytes: &[u8], a: usize) {
 }
 
 fn two(function: u8, s: &[u8], bytes: &[u8], a: usize) {
-    let mut r = [0u64; 2];
+    let mut r = [7u64; 2];
     let m = match function {
+        1 => exports::haspeljo_read_byte(bytes, a, &mut r),
+        2 => exports::haspeljo_read_vlq(bytes, a, &mut r),
+        3 => exports::haspeljo_read_vlq_length(bytes, a, &mut r),
         23 => handshakes::haspeljo_validate_peer(bytes, small(s, 0), &mut r),
         _ => handshakes::haspeljo_validate_entry(bytes, a, small(s, 8), &mut r),
     };
     result(m, two_numbers(&r));
 }
 
+fn three(function: u8, s: &[u8], bytes: &[u8], a: usize) {
+    let mut r = [7u64; 3];
+    let m = match function {
+        4 => exports::haspeljo_read_short_string(bytes, a, &mut r),
+        _ => exports::haspeljo_read_part(bytes, a, size(s, 8), &mut r),
+    };
+    result(m, three_numbers(&r));
+}
+
 fn four(function: u8, s: &[u8], bytes: &[u8], a: usize) {
-    let mut r = [0u64; 4];
+    let mut r = [7u64; 4];
     let m = match function {
         21 => handshakes::haspeljo_read_feature(bytes, a, &mut r),
         22 => handshakes::haspeljo_feature_by_index(bytes, a, size(s, 8), &mut r),
@@ -50,7 +65,7 @@ fn four(function: u8, s: &[u8], bytes: &[u8], a: usize) {
 }
 
 fn five(function: u8, s: &[u8], bytes: &[u8], a: usize) {
-    let mut r = [0u64; 5];
+    let mut r = [7u64; 5];
     let m = match function {
         27 => bodies::haspeljo_from_frame(small(s, 16), bytes, a, small(s, 8), &mut r),
         28 => bodies::haspeljo_parse_peers_body(bytes, a, small(s, 8), &mut r),
@@ -59,8 +74,14 @@ fn five(function: u8, s: &[u8], bytes: &[u8], a: usize) {
     result(m, five_numbers(&r));
 }
 
+fn step(s: &[u8], bytes: &[u8], a: usize) {
+    let mut r = [7u64; 11];
+    let m = sessions::haspeljo_step(bytes, small(s, 8), size(s, 16), a, &mut r);
+    result(m, eleven_numbers(&r));
+}
+
 fn fifteen(function: u8, s: &[u8], bytes: &[u8], a: usize) {
-    let mut r = [0u64; 15];
+    let mut r = [7u64; 15];
     let m = match function {
         18 => handshakes::haspeljo_parse(bytes, &mut r),
         20 => handshakes::haspeljo_parse_peer_entry(bytes, a, &mut r),
@@ -69,13 +90,9 @@ fn fifteen(function: u8, s: &[u8], bytes: &[u8], a: usize) {
     result(m, fifteen_numbers(&r));
 }
 
-// The numbers of a result array, or the refusal where m is not 0.
 fn result(m: u8, r: &[u64]) {
-    if m == 0 {
-        print::numbers(r);
-    } else {
-        print::refused(m);
-    }
+    print::number(m as u64);
+    print::numbers(r);
 }
 
 // An array lent as a slice.
@@ -87,11 +104,19 @@ fn two_numbers(r: &[u64; 2]) -> &[u64] {
     r
 }
 
+fn three_numbers(r: &[u64; 3]) -> &[u64] {
+    r
+}
+
 fn four_numbers(r: &[u64; 4]) -> &[u64] {
     r
 }
 
 fn five_numbers(r: &[u64; 5]) -> &[u64] {
+    r
+}
+
+fn eleven_numbers(r: &[u64; 11]) -> &[u64] {
     r
 }
 

@@ -37,12 +37,16 @@ pub fn sessions(count: u64) -> Vec<Kind> {
 
 /// Steps: place, network and cap before the bytes.
 pub fn steps(count: u64) -> Vec<Kind> {
-    let edges = edges().into_iter().flat_map(|case| {
-        let places = [0, 11, 12, case.bytes.len() as u64, case.bytes.len() as u64 + 1, u64::MAX];
-        places.map(|place| placed(&case, place))
-    });
+    let list = edges();
+    let first = &list[0];
+    let length = first.bytes.len() as u64;
+    let mut edges: Vec<Case> = [12, length, length + 1, u64::MAX].map(|p| placed(first, p)).into();
+    for case in &list {
+        edges.push(placed(case, 0));
+        edges.extend((case.bytes.len() > 10).then(|| placed(case, 11)));
+    }
     vec![
-        Kind::edges(edges.collect()),
+        Kind::edges(edges),
         networks(with(short(2), 2, |_| [64]), 1),
         Kind::random("items", count, |rng, visit| {
             let (case, ends) = session(rng, 12, RARELY);
@@ -78,7 +82,22 @@ fn edges() -> Vec<Case> {
     for cut in 0..=bytes.len() {
         edges.extend([0, 1].map(|mainnet| Case::new(&[mainnet, 64], &bytes[..cut])));
     }
-    let bodies: [(u8, &[u8]); 12] = [
+    // Each kind with different numbers: of Peers three entries, two of them bogus.
+    let peers = [
+        &[3, 0, 4, 0, 100, 0, 1, 8, 10, 0, 0, 1, 9, 0][..],
+        &[0, 4, 0, 100, 0, 1, 8, 8, 8, 8, 8, 9, 0, 0, 4, 0, 100, 0, 1, 8, 127, 0, 0, 1, 9, 0],
+    ]
+    .concat();
+    let ids = [&[9, 2][..], &[7; 64]].concat();
+    let payloads = [&[9, 2][..], &[7; 32], &[1, 5], &[8; 32], &[3, 5, 6, 7]].concat();
+    let declared = [&[2, 1][..], &[7; 32], &[36]].concat();
+    let bodies: [(u8, &[u8]); 22] = [
+        (2, &peers),
+        (22, &ids),
+        (33, &payloads),
+        (55, &ids),
+        (65, &ids),
+        (77, &payloads),
         (2, &[0]),
         (2, &[1, 0, 4, 0, 100, 0, 1, 8, 10, 0, 0, 1, 9, 0]),
         (2, &[2]),
@@ -91,12 +110,30 @@ fn edges() -> Vec<Case> {
         (65, &[1, 2, 3]),
         (3, &[]),
         (255, &[0xff]),
+        (2, &[0xff; 10]),
+        (2, &[1, 2, 0xc0, 0x80]),
+        (55, &[2, 0x81, 0xa4, 0xe8, 0x07]),
+        (33, &declared),
     ];
     for (code, body) in bodies {
-        let session =
-            [&bytes[..11], &bytes_of(Network::Mainnet, code, body), &bytes[11..]].concat();
-        edges.extend([Case::new(&[1, 64], &session), Case::new(&[255, 0], &session)]);
+        for (mainnet, network) in [(1, Network::Mainnet), (0, Network::Testnet)] {
+            let session = [&bytes[..11], &bytes_of(network, code, body), &bytes[11..]].concat();
+            edges.push(Case::new(&[mainnet, 64], &session));
+        }
+        let session = [&bytes[..11], &bytes_of(Network::Mainnet, code, body)].concat();
+        edges.push(Case::new(&[255, 0], &session));
     }
+    // A length above the limit, bytes that are missing, another check.
+    let frames: [&[u8]; 3] = [
+        &[1, 0, 2, 4, 1, 0, 0xfa, 0x12, 1],
+        &[1, 0, 2, 4, 1, 0, 0, 0, 2],
+        &[1, 0, 2, 4, 1, 0, 0, 0, 1, 0, 0, 0, 0, 7],
+    ];
+    edges.extend(frames.map(|frame| Case::new(&[1, 64], &[&bytes[..11], frame].concat())));
+    // A timestamp that doesn't end, an agent that isn't UTF-8, a feature above the limit.
+    let handshakes: [&[u8]; 3] =
+        [&[0xff; 10], &[0, 2, 0xc0, 0x80], &[0, 0, 4, 0, 100, 0, 0, 1, 5, 0x81, 0xa4, 0xe8, 0x07]];
+    edges.extend(handshakes.map(|handshake| Case::new(&[1, 64], handshake)));
     edges
 }
 

@@ -54,17 +54,20 @@ fn of_writer(count: u64, writer: Writer, make: Make) -> Vec<Kind> {
     kinds
 }
 
-/// Cases with outputs that have just enough room, some more, and too little.
-fn edges(writer: Writer, list: &[Case]) -> Kind {
+/// Cases with outputs that have just enough room, some more, and too little; and others, at limits and
+/// past them, with just enough room.
+fn edges(writer: Writer, list: &[Case], others: &[Case]) -> Kind {
+    let with = |case: &Case, at, room| {
+        let mut case = case.clone();
+        case.words[..2].copy_from_slice(&[at, room]);
+        case
+    };
     let rooms = list.iter().flat_map(|case| {
-        let length = written(writer, case).unwrap_or(40);
-        [(0, length), (3, length + 5), (2, length + 1), (length + 1, length)].map(|(at, room)| {
-            let mut case = case.clone();
-            case.words[..2].copy_from_slice(&[at, room]);
-            case
-        })
+        let n = written(writer, case).unwrap_or(40);
+        [(0, n), (3, n + 5), (2, n + 1), (n + 1, n)].map(|(at, room)| with(case, at, room))
     });
-    Kind::edges(rooms.collect())
+    let enough = others.iter().map(|case| with(case, 1, written(writer, case).unwrap_or(40) + 1));
+    Kind::edges(rooms.chain(enough).collect())
 }
 
 /// Gives a case an output for what it writes.
@@ -89,9 +92,11 @@ pub fn written(writer: Writer, case: &Case) -> Result<u64, u8> {
 /// An entry of a table: its row as the third number.
 pub fn entries(count: u64, writer: Writer) -> Vec<Kind> {
     let mut kinds = of_writer(count, writer, entry);
-    let tables = documented();
-    let row = |row| Case::new(&[0, 0, row, 300], &tables);
-    kinds.extend([edges(writer, &[row(0), row(1), row(2)]), long_features(&[0, 300, 0, 0], 0)]);
+    let tables = documented().laid();
+    let list = [0, 1, 2, 3].map(|row| Case::new(&[0, 0, row, 300 << (20 * row)], &tables));
+    let others: Vec<Case> =
+        changed().iter().map(|tables| Case::new(&[0, 0, 0, 1], &tables.laid())).collect();
+    kinds.extend([edges(writer, &list, &others), long_features(&[0, 300, 0, 0], 0)]);
     kinds
 }
 
@@ -108,23 +113,90 @@ pub fn entry(rng: &mut Rng) -> Case {
     Case::new(&[0, 0, row, timestamp], &tables.laid())
 }
 
-/// An entry with all that it may have, and one with nothing; features 16, 3 and one that is in both.
-fn documented() -> Vec<u8> {
+/// An entry with all that it may have, one with nothing, and one with an IPv6 address; the features
+/// 16, 3 and one that is in all of them.
+fn documented() -> Tables {
     let buffer = b"ergoref\x01\x02\x03\x04\x00\x01\x00\x01\x01\x00\x02\x04\x05";
-    let entries =
-        [[0, 7, 6, 0, 1, 4, 3, 8, 7, 9030, 0, 3], [0, 0, 4, 0, 100, 20, 0, 0, u32::MAX, 0, 2, 1]];
-    laid(&[&entries.concat(), &[16, 11, 4, 3, 15, 5, 200, 20, 0]], buffer)
+    let entries = [
+        [0, 7, 6, 0, 1, 4, 3, 8, 7, 9030, 0, 3],
+        [0, 0, 4, 0, 100, 20, 0, 0, u32::MAX, 0, 2, 1],
+        [1, 3, 255, 254, 253, 2, 2, 20, 4, 65535, 1, 2],
+    ];
+    Tables {
+        entries: entries.concat(),
+        features: vec![16, 11, 4, 3, 15, 5, 200, 20, 0],
+        buffer: buffer.to_vec(),
+    }
+}
+
+/// These tables with a number of the first row, of its features or of another row changed, so that it
+/// is at a limit or past it.
+fn changed() -> Vec<Tables> {
+    let entry = |at: usize, number| {
+        let mut tables = documented();
+        tables.entries[at] = number;
+        tables
+    };
+    let feature = |at: usize, number| {
+        let mut tables = documented();
+        tables.features[at] = number;
+        tables
+    };
+    let mut list = vec![];
+    // 16: a number in each column that has a limit, also of a row that isn't written, and rows that aren't whole.
+    list.extend(
+        [(2, 256), (15, 256), (4, 256), (7, 7), (7, 12), (9, 65536), (33, 65536)]
+            .map(|(at, n)| entry(at, n)),
+    );
+    list.push(feature(3, 256));
+    let mut short = documented();
+    short.entries.pop();
+    list.push(short);
+    let mut short = documented();
+    short.features.push(0);
+    list.push(short);
+    // 12: each part, and the feature rows.
+    list.extend(
+        [(0, 14), (1, 21), (5, 18), (8, 17), (10, 1), (11, 4), (8, u32::MAX)]
+            .map(|(at, n)| entry(at, n)),
+    );
+    list.push(feature(4, 16));
+    // 13 and 4, of the agent and of the name.
+    for (column, string) in [(0, [b'a'; 256]), (5, [b'a'; 256])] {
+        for length in [255, 256] {
+            let mut tables = documented();
+            tables.entries[column..column + 2].copy_from_slice(&[20, length]);
+            tables.buffer.extend(string);
+            list.push(tables);
+        }
+    }
+    for column in [0, 5] {
+        let mut tables = documented();
+        tables.entries[column..column + 2].copy_from_slice(&[20, 2]);
+        tables.buffer.extend([b'a', 0xc3]);
+        list.push(tables);
+    }
+    // 15
+    for count in [255, 256] {
+        let mut tables = documented();
+        tables.entries[10..12].copy_from_slice(&[3, count]);
+        tables.features.extend([7, 0, 0].repeat(256));
+        list.push(tables);
+    }
+    list
 }
 
 /// Entries for Peers: network and cap as third and fourth number.
 pub fn peers(count: u64, writer: Writer) -> Vec<Kind> {
     let kinds = of_writer(count, writer, entry_list);
     let mut kinds: Vec<Kind> = kinds.into_iter().map(|kind| networks(kind, 2)).collect();
-    let tables = documented();
-    let cap = |cap| Case::new(&[0, 0, 1, cap], &tables);
+    let tables = documented().laid();
+    let cap = |mainnet, cap| Case::new(&[0, 0, mainnet, cap], &tables);
     let none = Case::new(&[0, 0, 0, 0], &laid(&[&[], &[]], &[]));
-    let list = [cap(64), cap(2), cap(1), none];
-    kinds.extend([edges(writer, &list), long_features(&[0, 300, 1, 64], 13)]);
+    let mut others = vec![cap(1, 2)];
+    others.extend(changed().iter().map(|tables| Case::new(&[0, 0, 1, 64], &tables.laid())));
+    let edges = edges(writer, &[cap(1, 3), cap(0, 64), none], &others);
+    kinds.extend([edges, long_features(&[0, 300, 1, 64], 13)]);
     kinds
 }
 
@@ -308,12 +380,28 @@ fn far(rng: &mut Rng, length: u32) -> u32 {
 pub fn ids(count: u64, writer: Writer) -> Vec<Kind> {
     let kinds = of_writer(count, writer, id_list);
     let mut kinds: Vec<Kind> = kinds.into_iter().map(|kind| networks(kind, 2)).collect();
-    let list: [&[u32]; 5] = [&[], &[0], &[8, 0], &[9], &[u32::MAX]];
-    kinds.push(edges(
-        writer,
-        &list.map(|table| Case::new(&[0, 0, 1, 2], &laid(&[table], &[7; 40]))),
-    ));
+    let list: [&[u32]; 3] = [&[], &[0], &[8, 0]];
+    let others: [&[u32]; 3] = [&[9], &[u32::MAX], &[3; 401]];
+    kinds.push(edges(writer, &on_both(&list.map(listed)), &others.map(listed)));
     kinds
+}
+
+/// Cases on both networks.
+fn on_both(list: &[Case]) -> Vec<Case> {
+    let both = list.iter().flat_map(|case| {
+        [0, 1].map(|mainnet| {
+            let mut case = case.clone();
+            case.words[2] = mainnet;
+            case
+        })
+    });
+    both.collect()
+}
+
+/// A table beside a buffer of forty different bytes.
+fn listed(table: &[u32]) -> Case {
+    let buffer: Vec<u8> = (0..40).map(|i| 7 * i + 1).collect();
+    Case::new(&[0, 0, 1, 2], &laid(&[table], &buffer))
 }
 
 /// A few ids, and a type byte.
@@ -330,9 +418,10 @@ pub fn id_list(rng: &mut Rng) -> Case {
 pub fn payloads(count: u64, writer: Writer) -> Vec<Kind> {
     let kinds = of_writer(count, writer, payload_list);
     let mut kinds: Vec<Kind> = kinds.into_iter().map(|kind| networks(kind, 2)).collect();
-    let list: [&[u32]; 5] = [&[], &[0, 32, 8], &[8, 40, 0, 0, 0, 40], &[0, 33, 8], &[0, 0]];
-    let list = list.map(|table| Case::new(&[0, 0, 1, 2], &laid(&[table], &[7; 40])));
-    kinds.extend([edges(writer, &list), long_payloads()]);
+    let list: [&[u32]; 3] = [&[], &[0, 32, 8], &[8, 40, 0, 0, 0, 40]];
+    let others: [&[u32]; 4] = [&[0, 33, 8], &[9, 0, 1], &[0, 0], &[3; 3 * 401]];
+    let edges = edges(writer, &on_both(&list.map(listed)), &others.map(listed));
+    kinds.extend([edges, long_payloads()]);
     kinds
 }
 
@@ -399,7 +488,9 @@ pub fn bodies(count: u64, writer: Writer) -> Vec<Kind> {
     let kinds = of_writer(count, writer, body);
     let mut kinds: Vec<Kind> = kinds.into_iter().map(|kind| networks(kind, 2)).collect();
     let list: [&[u8]; 4] = [&[], &[0], &[1, 2, 3], &[255; 130]];
-    kinds.push(edges(writer, &list.map(|body| Case::new(&[0, 0, 1, 77], body))));
+    let list = list.map(|body| Case::new(&[0, 0, 1, 77], body));
+    let known = [1, 2, 22, 33, 55, 65].map(|code| Case::new(&[0, 0, 1, code], &[9, 8]));
+    kinds.push(edges(writer, &on_both(&list), &known));
     kinds.push(Kind::every("codes", 256 * 4, |i, case| {
         case.set(&[0, 13 + i % 2, i % 2, i / 4], &[7][..i as usize / 2 % 2]);
     }));
@@ -428,10 +519,16 @@ pub fn body(rng: &mut Rng) -> Case {
 /// Handshakes that the Rust has built, some of them with other numbers than it took, and strings
 /// that it doesn't take.
 pub fn builds(count: u64, writer: Writer) -> Vec<Kind> {
-    bounded(count, writer, |rng| {
+    let nowhere = Output { at: 0, room: 0 };
+    let cases = |configs: Vec<Config>| -> Vec<Case> {
+        configs.iter().map(|config| config.case(nowhere, &[])).collect()
+    };
+    let mut kinds = vec![edges(writer, &cases(vec![example()]), &cases(configs()))];
+    kinds.extend(bounded(count, writer, |rng| {
         let config = config(rng);
         let nowhere = Output { at: 0, room: 0 };
-        let known = config.agent.len() <= 255
+        let known = config.is_address()
+            && config.agent.len() <= 255
             && config.name.len() <= 255
             && std::str::from_utf8(&config.agent).is_ok()
             && std::str::from_utf8(&config.name).is_ok();
@@ -440,7 +537,59 @@ pub fn builds(count: u64, writer: Writer) -> Vec<Kind> {
             return config.case(nowhere, &built);
         }
         config.case(nowhere, &[])
-    })
+    }));
+    kinds
+}
+
+fn example() -> Config {
+    Config {
+        mainnet: 1,
+        light: 0,
+        state_type: 3,
+        verifying: 1,
+        blocks_to_keep: -1,
+        version: [4, 0, 100],
+        address: [0, 0, 0, 0],
+        timestamp: 300,
+        session_id: -2,
+        agent: b"ergoref".to_vec(),
+        name: b"me".to_vec(),
+    }
+}
+
+/// No address, IPv4 and IPv6 in both modes on both networks, numbers at the ends of their types, and
+/// what is refused.
+fn configs() -> Vec<Config> {
+    let config = example();
+    let [v4, v6] =
+        [[4, 0x0102_0304, 0, 9030], [6, 0x2001_0db8_0102_0304, 0x0506_0708_090a_0b0c, 9030]];
+    let with = |address| Config { address, ..config.clone() };
+    let testnet = |config: Config| Config { mainnet: 0, light: 1, verifying: 0, ..config };
+    let mut list = vec![config.clone(), with(v4), with(v6)];
+    list.extend([testnet(config.clone()), testnet(with(v4)), testnet(with(v6))]);
+    list.extend(
+        [[0, u64::MAX, u64::MAX, 1], [4, u32::MAX.into(), 0, 65535], [6, 0, u64::MAX, 0]].map(with),
+    );
+    let [most, least] = [(i32::MAX, i64::MAX), (i32::MIN, i64::MIN)];
+    list.extend([(most, u64::MAX), (least, 0)].map(|((blocks_to_keep, session_id), timestamp)| {
+        Config {
+            blocks_to_keep,
+            session_id,
+            timestamp,
+            state_type: 255,
+            version: [255, 254, 253],
+            ..config.clone()
+        }
+    }));
+    // 16
+    list.extend([1, 3, 5, 255].map(|kind| with([kind, 0, 0, 0])));
+    list.extend([[4, 1 << 32, 0, 9030], [4, u64::MAX, 0, 9030], [4, 1, 1, 9030]].map(with));
+    // 13 and 4
+    for string in [vec![b'a'; 255], vec![b'a'; 256], b"a\xc3".to_vec()] {
+        list.push(Config { agent: string.clone(), ..config.clone() });
+        list.push(Config { name: string, ..config.clone() });
+    }
+    list
 }
 
 pub fn config(rng: &mut Rng) -> Config {
@@ -448,7 +597,10 @@ pub fn config(rng: &mut Rng) -> Config {
     version(rng, &mut numbers);
     let address = match rng.below(3) {
         0 => [rng.pick(&[0, 0, 0, 5, 255]), rng.number(), rng.number(), rng.below(65536)],
-        1 => [4, near_v4(rng).into(), 0, rng.below(65536)],
+        1 => {
+            let more = rng.pick(&[0, 0, 0, 0, 0, 0, 0, 1 << 32]);
+            [4, u64::from(near_v4(rng)) + more, rng.below(16) / 15, rng.below(65536)]
+        }
         _ => {
             let address = near_v6(rng);
             [6, (address >> 64) as u64, address as u64, rng.below(65536)]

@@ -38,7 +38,7 @@ pub fn rows() -> Vec<Function> {
                 "timestamp",
                 "session",
             ],
-            &[4, 12, 13, 14],
+            &[4, 12, 13, 14, 16],
             rust::builds::build,
             |c| on_case(c, ours::builds::build),
             tables::builds,

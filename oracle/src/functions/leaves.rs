@@ -2,12 +2,11 @@
 
 use super::{total, Function};
 use crate::answer::{Answer, Value};
-use crate::cases::{addresses, hashes, numbers, parts, text, writers};
+use crate::cases::{addresses, hashes, numbers, parts, text};
 use crate::{ours, rust};
 
 pub fn rows() -> Vec<Function> {
     let mut rows = readers();
-    rows.extend(writers());
     rows.extend(zigzags());
     rows.extend(others());
     rows
@@ -64,41 +63,6 @@ fn readers() -> Vec<Function> {
             expected: |c| rust::read_part(&c.bytes, c.word(0), c.word(1)),
             ours: |c| ours::read_part(&c.bytes, c.place(0), c.place(1)),
             kinds: parts::parts(),
-        },
-    ]
-}
-
-fn writers() -> Vec<Function> {
-    vec![
-        Function {
-            number: 6,
-            name: "write_vlq",
-            words: &["place", "room", "value"],
-            told: &[],
-            untold: &[12, 14],
-            expected: |c| rust::write_vlq(c.word(1), c.word(0), c.word(2)),
-            ours: |c| ours::write_vlq(c.place(1), c.place(0), c.word(2)),
-            kinds: writers::vlq(),
-        },
-        Function {
-            number: 7,
-            name: "write_short_string",
-            words: &["place", "room"],
-            told: &[],
-            untold: &[4, 12, 13, 14],
-            expected: |c| rust::write_short_string(c.word(1), c.word(0), &c.bytes),
-            ours: |c| ours::write_short_string(c.place(1), c.place(0), &c.bytes),
-            kinds: writers::short_string(),
-        },
-        Function {
-            number: 8,
-            name: "write_part",
-            words: &["place", "room"],
-            told: &[],
-            untold: &[12, 14],
-            expected: |c| rust::write_part(c.word(1), c.word(0), &c.bytes),
-            ours: |c| ours::write_part(c.place(1), c.place(0), &c.bytes),
-            kinds: writers::part(),
         },
     ]
 }

@@ -1,14 +1,56 @@
-//! Writers of entries and whole frames.
+//! Writers of single values, entries and whole frames.
 
 use super::Function;
 use crate::answer::Answer;
 use crate::case::Case;
 use crate::cases::tables::{self, Writer};
+use crate::cases::writers;
 use crate::kinds::Kind;
 use crate::ours::writers::on_case;
 use crate::{ours, rust};
 
 pub fn rows() -> Vec<Function> {
+    let mut rows = of_values();
+    rows.extend(of_tables());
+    rows
+}
+
+fn of_values() -> Vec<Function> {
+    vec![
+        Function {
+            number: 6,
+            name: "write_vlq",
+            words: &["place", "room", "value"],
+            told: &[],
+            untold: &[12, 14],
+            expected: |c| rust::write_vlq(c.word(1), c.word(0), c.word(2)),
+            ours: |c| ours::write_vlq(c.place(1), c.place(0), c.word(2)),
+            kinds: writers::vlq(),
+        },
+        Function {
+            number: 7,
+            name: "write_short_string",
+            words: &["place", "room"],
+            told: &[],
+            untold: &[4, 12, 13, 14],
+            expected: |c| rust::write_short_string(c.word(1), c.word(0), &c.bytes),
+            ours: |c| ours::write_short_string(c.place(1), c.place(0), &c.bytes),
+            kinds: writers::short_string(),
+        },
+        Function {
+            number: 8,
+            name: "write_part",
+            words: &["place", "room"],
+            told: &[],
+            untold: &[12, 14],
+            expected: |c| rust::write_part(c.word(1), c.word(0), &c.bytes),
+            ours: |c| ours::write_part(c.place(1), c.place(0), &c.bytes),
+            kinds: writers::part(),
+        },
+    ]
+}
+
+fn of_tables() -> Vec<Function> {
     vec![
         writer(
             35,

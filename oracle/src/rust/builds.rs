@@ -21,7 +21,7 @@ pub struct Config {
     pub verifying: u8,
     pub blocks_to_keep: i32,
     pub version: [u8; 3],
-    /// 4 or 6, any other for none; the address as a number, of IPv6 the high and the low half; the port.
+    /// 0 for none, 4 or 6; the address as a number, of IPv6 the high and the low half; the port.
     pub address: [u64; 4],
     pub timestamp: u64,
     pub session_id: i64,
@@ -83,6 +83,15 @@ impl Config {
         (Config { timestamp, session_id, ..self.clone() }, bytes)
     }
 
+    /// 16: the kind is 0, 4 or 6, and the number of an IPv4 address has 32 bits and no low half.
+    pub fn is_address(&self) -> bool {
+        match self.address {
+            [0 | 6, ..] => true,
+            [4, high, low, _] => high <= u32::MAX.into() && low == 0,
+            _ => false,
+        }
+    }
+
     fn socket_address(&self) -> Option<SocketAddr> {
         let [kind, high, low, port] = self.address;
         let ip: IpAddr = match kind {
@@ -123,6 +132,9 @@ impl Config {
 pub fn build(case: &Case) -> Expected {
     let config = Config::of(case);
     let out = Output::of(case);
+    if !config.is_address() {
+        return refused(16);
+    }
     if out.is_outside() {
         return refused(12);
     }

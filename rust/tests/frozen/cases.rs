@@ -8,7 +8,7 @@ pub struct Case<'a> {
     pub input: &'a [u8],
 }
 
-impl Case<'_> {
+impl<'a> Case<'a> {
     /// The next argument that is a number.
     pub fn word(&mut self) -> u64 {
         let (word, rest) = self.input.split_first_chunk().unwrap();
@@ -19,6 +19,18 @@ impl Case<'_> {
     /// The next argument, a place, a count or an index.
     pub fn size(&mut self) -> usize {
         self.word() as usize
+    }
+
+    pub fn byte(&mut self) -> u8 {
+        self.word() as u8
+    }
+
+    /// The next string, behind its length.
+    pub fn string(&mut self) -> &'a [u8] {
+        let (length, rest) = self.input.split_first_chunk().unwrap();
+        let (string, rest) = rest.split_at(u32::from_le_bytes(*length) as usize);
+        self.input = rest;
+        string
     }
 
     pub fn network(&mut self) -> Network {
@@ -39,4 +51,11 @@ pub fn cases(mut bytes: &[u8]) -> Vec<Case<'_>> {
     }
     assert!(bytes.is_empty());
     cases
+}
+
+pub fn hex(bytes: &[u8]) -> String {
+    match bytes {
+        [] => "-".into(),
+        _ => bytes.iter().map(|byte| format!("{byte:02x}")).collect(),
+    }
 }

@@ -1,12 +1,16 @@
-//! The readers of entries, handshakes, frames and message bodies, 18 to 32. An answer is numbers;
-//! the places among them are those of the parts that the crate lends out of the bytes.
+//! The readers: of single values, 1 to 5, and of entries, handshakes, frames and message bodies, 18 to
+//! 32. An answer is numbers; the places among them are those of the parts that the crate lends out of
+//! the bytes.
 
 use crate::cases::Case;
-use haspeljo::{decode, Entry, Error, Handshake, Message, MessageCode, Network};
+use haspeljo::{decode, vlq, Entry, Error, Handshake, Message, MessageCode, Network};
 use std::net::{IpAddr, SocketAddr};
 use std::ops::Range;
 
 type Numbers = Result<Vec<u64>, Error>;
+
+/// What the slots of an array hold before a call.
+pub const UNTOUCHED: u64 = 7;
 
 /// Which numbers of a frozen answer the crate does not show, by their indices.
 fn hidden(function: u8, numbers: &[u64]) -> &'static [usize] {
@@ -23,17 +27,20 @@ fn hidden(function: u8, numbers: &[u64]) -> &'static [usize] {
 
 /// What the crate must answer, by the frozen answer.
 pub fn expected(function: u8, answer: &str) -> Numbers {
-    if let Some(number) = answer.strip_prefix("refused ") {
-        return Err(Error::of(number.parse().unwrap()).unwrap());
-    }
     let numbers: Vec<u64> = answer.split(' ').map(|word| word.parse().unwrap()).collect();
-    let hidden = hidden(function, &numbers);
+    let [number, numbers @ ..] = &numbers[..] else { panic!("no numbers") };
+    if let Some(error) = Error::of(*number as u8) {
+        assert!(numbers.iter().all(|slot| *slot == UNTOUCHED));
+        return Err(error);
+    }
+    let hidden = hidden(function, numbers);
     Ok((0..numbers.len()).filter(|i| !hidden.contains(i)).map(|i| numbers[i]).collect())
 }
 
 /// Arguments are taken and handed over in the order of the table.
 pub fn answer(mut case: Case) -> Numbers {
     match case.function {
+        1..=5 => value(case),
         18 => parse(case.input),
         19 => Ok(vec![Handshake::measure_size(case.input)? as u64]),
         20 => parse_peer_entry(case.size(), case.input),
@@ -49,6 +56,24 @@ pub fn answer(mut case: Case) -> Numbers {
         32 => payload_by_index(case.size(), case.input),
         other => panic!("function {other} is no reader of the crate"),
     }
+}
+
+/// A value, or a string or part by place and length, and the next place.
+fn value(mut case: Case) -> Numbers {
+    let at = case.size();
+    let count = if case.function == 5 { case.size() } else { 0 };
+    let bytes = case.input;
+    let part = |(part, next): (&[u8], usize)| {
+        let [start, length] = span(bytes, part);
+        vec![start, length, next as u64]
+    };
+    Ok(match case.function {
+        1 => vlq::read_byte(bytes, at).map(|(byte, next)| vec![byte.into(), next as u64])?,
+        2 => vlq::read_vlq(bytes, at).map(|(value, next)| vec![value, next as u64])?,
+        3 => vlq::read_vlq_length(bytes, at).map(|(n, next)| vec![n as u64, next as u64])?,
+        4 => vlq::read_short_string(bytes, at).map(|(text, next)| part((text.as_bytes(), next)))?,
+        _ => part(vlq::read_part(bytes, at, count)?),
+    })
 }
 
 fn parse(bytes: &[u8]) -> Numbers {

@@ -1,6 +1,7 @@
 -- `exports::writers::address_from` meets its contract: by the kind.
 use borrow.Author.Tests.{eq-eqb, ne-eqb}
 use Rattle.exports.specs.Configs.{addressFrom}
+use Rattle.exports.proofs.BuildLaws.{v4-below}
 use borrow.Author.Needs.{needs}
 use Rattle.exports.proofs.writers.address_from.Statement.{statement}
 use Rattle.exports.proofs.writers.address_from.Tie as tie
@@ -21,7 +22,7 @@ pub address-from-spec : {M : Type 1} → statement M
 address-from-spec =
     tie.close
     (tie.spec
-    (λ c. search needs)
+    (λ c. record { fits = v4-below (c .before .args .kind) (c .before .args .high) (c .before .args .low) (c .if1 .taken) (c .before .pre) })
     returns
     returns-2
     returns-3)
