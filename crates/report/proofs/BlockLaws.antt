@@ -32,6 +32,10 @@ next-len StepReads.Outside at n = refl
 line-here : (zeros line buf : List ℕ) (k : ℕ) → buf ≡ put zeros 0 line → k ≡ length line → length line ≤ length zeros → take k buf ≡ line
 line-here zeros line buf k e f h = ap (λ (b : List ℕ). take k b) e ∙ ap (λ (n : ℕ). take n (put zeros 0 line)) f ∙ put-here zeros 0 line (omega arith)
 
+-- the buffer is as long as it was
+pub line-room : (zeros line : List ℕ) {buf : List ℕ} {k : ℕ} → length zeros ≡ 192 → buf ≡ put zeros 0 line → k ≤ 192 → k ≤ length buf
+line-room zeros line z e h = let n = ap length e ∙ length-put zeros 0 line in omega (arith, n)
+
 module _ (network : Network) (cap : ℕ) (s : List ℕ) where
   -- ---- `put_lines`
 

@@ -8,6 +8,7 @@ ghost use Rattle.walk_read.specs.Steps.{stepOf};
 ghost use Rattle.report_lines.specs.StepLines.{lineOf};
 ghost use Rattle.io.specs.Counts.{Counts};
 ghost use Rattle.report.specs.Report.{nextOf, blockAt, blockNext, reportText, sessionText};
+use input_read::Input;
 use libc::STDOUT_FILENO;
 use types::Network;
 use types::StreamPlace;
@@ -26,7 +27,22 @@ const MAX_INPUT: usize = 65536;
 // The Peers cap of the program `session`.
 const CAP: usize = 64;
 
-// Prints what the program `session` prints of its input, and gives how many bytes that is: `long` where the input is too long, otherwise its report.
+// All that the program `session` does: it reads its input, of which one byte more than the longest is enough to tell, and prints `unread` where a read
+// failed, otherwise what it prints of the input.
+pub fn print_input(fd: i32) {
+    let mut input = [0u8; MAX_INPUT + 1];
+    let read = input_read::read_input(fd, &mut input);
+    match read {
+        Input::Bytes(n) => {
+            print_session(&input[..n]);
+        }
+        Input::Failed => {
+            io::write_all(STDOUT_FILENO, b"unread\n");
+        }
+    }
+}
+
+// Prints `long` where the input is too long, otherwise its report as a session of mainnet with the cap 64, and gives how many bytes that is.
 pub fn print_session(s: &[u8]) -> u64
     ensures { λ r. ⌜ r ≡ length (sessionText (now (s .entry))) % 2 ^ 64 ⌝ }
 {

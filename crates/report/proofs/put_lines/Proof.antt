@@ -1,15 +1,14 @@
 -- `report::put_lines` meets its contract: each turn stores the line of a step, and what is to come is the block in the room that is left.
 use Prim.Native.Nat.{_-_}
 use native.Mathlib.Omega.{arith}
-use mathlib.Core.Path.{refl, sym, ap, _∙_}
+use mathlib.Core.Path.{refl, sym}
 use denote.Ref.{now}
 use lib.ListN.{length}
 use lib.Seq.{length-take-le}
 use borrow.Author.Needs.{needs}
 use borrow.Author.Tests.{leb-true, leb-false}
-use Rattle.wire.specs.OutputLaws.{length-put}
 use Rattle.report.specs.ReportLaws.{linesFrom}
-use Rattle.report.proofs.BlockLaws.{Laying, laying-start, laying-turn, laying-last, laying-full}
+use Rattle.report.proofs.BlockLaws.{line-room, Laying, laying-start, laying-turn, laying-last, laying-full}
 use Rattle.report.proofs.put_lines.Statement.{statement}
 use Rattle.report.proofs.put_lines.Tie as tie
 
@@ -28,16 +27,10 @@ sub-if1 : tie.Need-sub-if1 Inv-loop μ-loop
 sub-if1 c = let l = c .before .loop .inv in omega (arith, l .fits, l .writing .long)
 
 array-share-prefix-line : tie.Need-array-share-prefix-line Inv-loop μ-loop
-array-share-prefix-line c =
-    let n = c .before .next-line .ensures in
-    let e = ap length (n .1 .0) ∙ length-put _ 0 _ in
-    omega (arith, n .1 .1, e)
+array-share-prefix-line c = let n = c .before .next-line .ensures in line-room _ _ refl (n .1 .0) (n .1 .1)
 
 slice-aggregate-write-part : tie.Need-slice-aggregate-write-part Inv-loop μ-loop
-slice-aggregate-write-part c =
-    let n = c .before .before .next-line .ensures in
-    let e = ap length (n .1 .0) ∙ length-put _ 0 _ in
-    sym (length-take-le _ _ (omega (arith, n .1 .1, e)))
+slice-aggregate-write-part c = let n = c .before .before .next-line .ensures in sym (length-take-le _ _ (line-room _ _ refl (n .1 .0) (n .1 .1)))
 
 add-len : tie.Need-add-len Inv-loop μ-loop
 add-len c =
