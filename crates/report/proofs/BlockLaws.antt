@@ -17,7 +17,7 @@ use Rattle.walk_read.specs.declared.StepRead.the-variants as StepReads
 use Rattle.walk_read.specs.Steps.{streamPlace, stepOf}
 use Rattle.report_lines.specs.StepLines.{lineOf}
 use Rattle.report.specs.declared.Next.{Next}
-use Rattle.report.specs.Report.{nextOf, Block, blockAt, blockNext, reportText}
+use Rattle.report.specs.Report.{nextOf, lineAt, nextAt, Block, blockAt, blockNext, reportText}
 use Rattle.report.specs.ReportLaws.{linesFrom, textFrom, blockFrom, OneLine, one-line, text-all, block-full, lays, lays-some}
 
 next-len : (r : StepRead) (at : StreamPlace) (n : ℕ) → nextOf r at n .len ≡ length (lineOf r n)
@@ -70,8 +70,8 @@ module _ (network : Network) (cap : ℕ) (s : List ℕ) where
 
     -- a turn stores one line
     pub laying-turn : {mid : List ℕ} {len at : ℕ} {more : Bool} (next : Next) (zeros buf : List ℕ) → length zeros ≡ 192
-        → next ≡ nextOf (stepOf network s (sessionStep network cap s at)) (streamPlace at) (length s)
-        → buf ≡ put zeros 0 (lineOf (stepOf network s (sessionStep network cap s at)) (length s))
+        → next ≡ nextAt network cap s at
+        → buf ≡ put zeros 0 (lineAt network cap s at)
         → next .len ≤ 192 → more ≡ true → 192 ≤ length mid - len → Laying mid len at more
         → {r : Written} {left : List ℕ} → r ≡ written [] [] mid len (take (next .len) buf) → left ≡ outputAfter r mid len (take (next .len) buf)
         → Laying left (len + next .len) (next .at .0) (next .more) × (linesFrom network cap s (next .at .0) (next .more) < linesFrom network cap s at more)

@@ -1,10 +1,7 @@
 -- Document 01, "At the edges": the report of the session of 20 bytes and of its cuts, and the longest input that is reported on.
 use Prim.Native.Nat.{ℕ}
-use native.Mathlib.Omega.{arith}
-use mathlib.Core.Bool.{cond}
 use mathlib.Core.List.{List, [], _∷_, map, flatMap}
 use mathlib.Core.Path.{_≡_, refl}
-use lib.Dec.{ltb}
 use lib.ListN.{length, take, replicate}
 use Rattle.wire.specs.Bytes.{bigEndian, bigEndianFrom, sameBytes}
 use Rattle.wire.specs.Reader.{fold, listOf}

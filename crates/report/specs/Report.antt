@@ -9,8 +9,8 @@ use Rattle.types.specs.declared.Network.{Network}
 use Rattle.types.specs.declared.Network.the-variants.{Mainnet}
 use Rattle.types.specs.declared.StreamPlace.{StreamPlace}
 use Rattle.walk.specs.Walk.{Item, Ending, clean, stopped, unended, Reading, walk}
-use Rattle.walk.specs.Session.{Fields, handshakeFields, messageFields, Verdict, peerVerdict, peersVerdict, noVerdict, Content, handshakeAt, messageAt, sessionReading}
-use Rattle.walk_read.specs.Steps.{streamPlace, layerOf, peerNumber}
+use Rattle.walk.specs.Session.{Fields, handshakeFields, messageFields, Verdict, peerVerdict, peersVerdict, noVerdict, Content, handshakeAt, messageAt, sessionStep, sessionReading}
+use Rattle.walk_read.specs.Steps.{streamPlace, layerOf, peerNumber, stepOf}
 use Rattle.walk_read.specs.declared.StepRead.{StepRead}
 use Rattle.walk_read.specs.declared.StepRead.the-variants as StepReads
 use Rattle.report_text.specs.Lines.{ascii, handshakeLine, messageLine, peersLine, stopLine, endLine}
@@ -59,6 +59,14 @@ nextOf (StepReads.Message i) at n = record { len = length (lineOf (StepReads.Mes
 nextOf StepReads.End at n = record { len = length (lineOf StepReads.End n); at = at; more = false }
 nextOf (StepReads.Stop t) at n = record { len = length (lineOf (StepReads.Stop t) n); at = at; more = false }
 nextOf StepReads.Outside at n = record { len = length (lineOf StepReads.Outside n); at = at; more = false }
+
+module _ (network : Network) (cap : ℕ) (s : List ℕ) where
+  -- what `next_line` stores and gives at a place
+  abbrev pub lineAt : ℕ → List ℕ
+  lineAt at = lineOf (stepOf network s (sessionStep network cap s at)) (length s)
+
+  abbrev pub nextAt : ℕ → Next
+  nextAt at = nextOf (stepOf network s (sessionStep network cap s at)) (streamPlace at) (length s)
 
 -- ---- lines of it in an output
 

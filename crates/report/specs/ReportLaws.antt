@@ -6,15 +6,14 @@ use mathlib.Core.List.{List, [], _∷_, _++_, flatMap, append-assoc, append-nil}
 use mathlib.Core.Logic.{⊎-elim}
 use mathlib.Core.Path.{_≡_, refl, sym, subst, ap, _∙_}
 use lib.Dec.{leb, eqb}
-use lib.ListN.{length, length-append}
+use lib.ListN.{length}
 use borrow.Author.Tests.{le-leb, lt-leb}
 use Rattle.wire.specs.Numbers.{lt-or-ge}
 use Rattle.wire.specs.Reader.{Answer, got, refused}
 use Rattle.types.specs.declared.Network.{Network}
 use Rattle.types.specs.declared.StreamPlace.{StreamPlace}
-use Rattle.handshake.specs.Entry.{EntryHandshake}
+use Rattle.handshake.specs.Entry.{EntryHandshake, handshake}
 use Rattle.frame.specs.Frame.{BodyFrame, frame}
-use Rattle.handshake.specs.Entry.{handshake}
 use Rattle.messages.specs.Message as Bodies
 use Rattle.messages.specs.Message.{Message, message}
 use Rattle.walk.specs.Walk as Walk

@@ -4,26 +4,14 @@ use mathlib.Core.Bool.{true, false}
 use mathlib.Core.List.{List, _++_}
 use mathlib.Core.Logic.{_↔_}
 use mathlib.Core.Path.{_≡_}
-use lib.ListN.{length}
 use Rattle.types.specs.declared.Network.{Network}
-use Rattle.walk.specs.Session.{sessionStep}
-use Rattle.walk_read.specs.Steps.{streamPlace, stepOf}
-use Rattle.report_lines.specs.StepLines.{lineOf}
-use Rattle.report.specs.declared.Next.{Next}
-use Rattle.report.specs.Report.{reportText, sessionText, unread, nextOf, Block, blockAt}
+use Rattle.report.specs.Report.{reportText, sessionText, unread, lineAt, nextAt, blockAt}
 
 module _ (network : Network) (cap : ℕ) (s : List ℕ) where
-  -- what `next_line` stores and gives at a place
-  abbrev pub lineAt : ℕ → List ℕ
-  lineAt at = lineOf (stepOf network s (sessionStep network cap s at)) (length s)
-
-  abbrev pub nextAt : ℕ → Next
-  nextAt at = nextOf (stepOf network s (sessionStep network cap s at)) (streamPlace at) (length s)
-
   -- the lines of `next_line`, from a place on, each next at the place that it gives, joined
   pub data LinesFrom : ℕ → List ℕ → Type 0 where
-    more : {at : ℕ} {text : List ℕ} → nextAt at .more ≡ true → LinesFrom (nextAt at .at .0) text → LinesFrom at (lineAt at ++ text)
-    last : {at : ℕ} → nextAt at .more ≡ false → LinesFrom at (lineAt at)
+    more : {at : ℕ} {text : List ℕ} → nextAt network cap s at .more ≡ true → LinesFrom (nextAt network cap s at .at .0) text → LinesFrom at (lineAt network cap s at ++ text)
+    last : {at : ℕ} → nextAt network cap s at .more ≡ false → LinesFrom at (lineAt network cap s at)
 
   -- what `put_lines` stores into outputs of any lengths, from a place on, each next at the place that it gives, joined
   pub data BlocksFrom : ℕ → List ℕ → Type 0 where

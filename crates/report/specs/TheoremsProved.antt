@@ -14,10 +14,10 @@ use Rattle.walk.specs.Session.{Fields, handshakeFields, messageFields, Verdict,
 use Rattle.walk_read.specs.Steps.{streamPlace}
 use Rattle.report_text.specs.Lines.{ascii, field, span, handshakeLine, messageText, messageLine, peersLine, stopLine, endLine}
 use Rattle.report_lines.specs.StepLines.{stopText}
-use Rattle.report.specs.Report.{contentLine, itemLine, endingLine, reportText, sessionText, Block, blockAt}
+use Rattle.report.specs.Report.{contentLine, itemLine, endingLine, reportText, sessionText, lineAt, nextAt, Block, blockAt}
 use Rattle.report.specs.Theorems as Theorems
-use Rattle.report.specs.Theorems.{lineAt, nextAt, LinesFrom, BlocksFrom, LinesAreReport, BlocksAreReport, NeverUnread}
-use Rattle.report.specs.ReportLaws.{linesFrom, textFrom, OneLine, one-line, text-all, Laid, lays}
+use Rattle.report.specs.Theorems.{LinesFrom, BlocksFrom, LinesAreReport, BlocksAreReport, NeverUnread}
+use Rattle.report.specs.ReportLaws.{linesFrom, textFrom, OneLine, one-line, text-all, lays}
 
 module _ (network : Network) (cap : ℕ) (s : List ℕ) where
   lines-text : {at : ℕ} {text : List ℕ} → LinesFrom network cap s at text → text ≡ textFrom network cap s at true

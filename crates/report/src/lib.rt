@@ -1,13 +1,10 @@
 // The report of a session (document 01, "At the edges"): the line of a step, as many lines as fit into a lent output, and the whole of it printed.
 ghost use mathlib.Core.Path.{_≡_};
-ghost use Prim.Native.Nat.{_+_, _%_, _^_, _≤_};
+ghost use Prim.Native.Nat.{_%_, _^_, _≤_};
 ghost use lib.ListN.{length};
 ghost use Rattle.wire.specs.Output.{put};
-ghost use Rattle.walk.specs.Session.{sessionStep};
-ghost use Rattle.walk_read.specs.Steps.{stepOf};
-ghost use Rattle.report_lines.specs.StepLines.{lineOf};
 ghost use Rattle.io.specs.Counts.{Counts};
-ghost use Rattle.report.specs.Report.{nextOf, blockAt, blockNext, reportText, sessionText};
+ghost use Rattle.report.specs.Report.{lineAt, nextAt, blockAt, blockNext, reportText, sessionText};
 use input_read::Input;
 use libc::STDOUT_FILENO;
 use types::Network;
@@ -103,8 +100,8 @@ pub fn next_line(
     cap: usize,
     at: StreamPlace,
 ) -> Next
-    ensures { λ r. ⌜ r ≡ nextOf (stepOf network (now (s .entry)) (sessionStep network cap (now (s .entry)) (at .0))) at (length (now (s .entry))) ⌝ }
-    ensures { λ r. ⌜ now (line .exit) ≡ put (now (line .entry)) 0 (lineOf (stepOf network (now (s .entry)) (sessionStep network cap (now (s .entry)) (at .0))) (length (now (s .entry)))) ⌝ }
+    ensures { λ r. ⌜ r ≡ nextAt network cap (now (s .entry)) (at .0) ⌝ }
+    ensures { λ r. ⌜ now (line .exit) ≡ put (now (line .entry)) 0 (lineAt network cap (now (s .entry)) (at .0)) ⌝ }
     ensures { λ r. ⌜ r .len ≤ 192 ⌝ }
 {
     let step = walk_read::step(s, network, cap, at);

@@ -1,6 +1,5 @@
 -- Document 01, "At the edges": a line of each kind, the longest numbers, and numbers with one digit more than their neighbour.
-use Prim.Native.Nat.{ℕ}
-use mathlib.Core.List.{List, [], _∷_, map}
+use mathlib.Core.List.{[], _∷_, map}
 use mathlib.Core.Path.{_≡_, refl}
 use Rattle.report_text.specs.Lines.{ascii, decimalIn, decimal, field, span, versionText, handshakeLine, messageText, messageLine, peersLine, stopHandshake, stopFrame, stopBody, stopLine, endLine}
 

@@ -1,5 +1,4 @@
 -- `report::print_report` meets its contract: each turn prints a block, and the rest of the report is to come.
-use mathlib.Core.Path.{refl}
 use denote.Ref.{now}
 use borrow.Author.Needs.{needs}
 use Rattle.report.specs.ReportLaws.{linesFrom}
