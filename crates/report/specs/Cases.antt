@@ -13,10 +13,11 @@ use Rattle.types.specs.declared.Network.the-variants.{Mainnet}
 use Rattle.handshake.specs.Entry.{version, addressIf, entry, handshake}
 use Rattle.handshake.specs.Verdict.{firstFeature, otherMagic, validatePeer}
 use Rattle.frame.specs.Frame.{header, body, frame}
-use Rattle.messages.specs.Message.{message}
-use Rattle.walk.specs.Walk.{stepTo, onward, step, walkIn, walk, reading}
-use Rattle.walk.specs.Session.{messageVerdict, handshakeItem, messageItem, frameItem, handshakeAt, messageAt, sessionReading}
-use Rattle.report_text.specs.Lines.{ascii, decimalIn, decimal, field, span, versionText, handshakeLine, messageText, messageLine, stopLine, endLine}
+use Rattle.messages.specs.Message.{peers, unknown, message}
+use Rattle.walk.specs.Walk as Walk
+use Rattle.walk.specs.Walk.{clean, stopped, stepTo, onward, step, walkIn, walk, reading}
+use Rattle.walk.specs.Session.{messageFields, peersVerdict, noVerdict, messageVerdict, handshakeItem, messageItem, frameItem, handshakeAt, messageAt, sessionReading}
+use Rattle.report_text.specs.Lines.{ascii, decimalIn, decimal, field, span, versionText, handshakeLine, messageText, messageLine, peersLine, stopLine, endLine}
 use Rattle.report_lines.specs.StepLines.{stopText}
 use Rattle.report.specs.Report.{contentLine, endingLine, reportText, sessionText}
 
@@ -34,6 +35,20 @@ pub all-cases : map sessionText (session ∷ take 10 session ∷ take 11 session
     ∷ []
 unfolding sessionText reportText contentLine endingLine stopText decimalIn decimal field span versionText handshakeLine messageText messageLine stopLine endLine flatMap sessionReading reading walk walkIn onward step stepTo handshakeAt messageAt handshakeItem frameItem messageItem messageVerdict validatePeer firstFeature otherMagic below thenBy handshake entry version addressIf shortString string utf8 utf8From leadOf leadIn rows vlq groups listOf fold frame header body bigEndian bigEndianFrom sameBytes message
 all-cases = refl
+
+-- Peers adds entries and bogus; a stop has its layer
+pub all-lines : contentLine 11 65 (messageFields 2 24 (peers [])) (peersVerdict 3 1)
+    ∷ contentLine 11 20 (messageFields 255 20 (unknown [])) noVerdict
+    ∷ map (endingLine 65) (clean ∷ stopped Walk.handshake 1 0 ∷ stopped Walk.frame 9 11 ∷ stopped Walk.body 11 20 ∷ [])
+    ≡ ascii "message 11 65 code 2 entries 3 bogus 1\n"
+    ∷ ascii "message 11 20 code 255\n"
+    ∷ ascii "end 65\n"
+    ∷ ascii "stop handshake 1 0\n"
+    ∷ ascii "stop frame 9 11\n"
+    ∷ ascii "stop body 11 20\n"
+    ∷ []
+unfolding contentLine endingLine stopText decimalIn decimal field span messageText messageLine peersLine stopLine endLine
+all-lines = refl
 
 -- 65,536 bytes are reported on, 65,537 are not
 pub longest : (s : List ℕ) → length s ≡ 65536 → sessionText s ≡ reportText Mainnet 64 s
