@@ -1,2 +1,5 @@
+pub mod Cases
 pub mod Report
 pub mod ReportLaws
+pub mod Theorems
+pub mod TheoremsProved

@@ -1,18 +1,17 @@
-// The lines of a session's report (document 01, "At the edges"), each stored from the first byte of a lent line on.
+// The report of a session (document 01, "At the edges"): the line of a step, as many lines as fit into a lent output, and the whole of it printed.
 ghost use mathlib.Core.Path.{_≡_};
-ghost use Prim.Native.Nat.{_+_, _≤_};
+ghost use Prim.Native.Nat.{_%_, _^_, _≤_};
 ghost use lib.ListN.{length};
 ghost use Rattle.wire.specs.Output.{put};
-ghost use Rattle.walk.specs.Session.{sessionStep, sessionReading};
-ghost use Rattle.walk_read.specs.Steps.{stepOf};
-ghost use Rattle.report_lines.specs.StepLines.{lineOf};
-ghost use Rattle.report.specs.Report.{nextOf, sessionLines};
+ghost use Rattle.io.specs.Counts.{Counts};
+ghost use Rattle.report.specs.Report.{lineAt, nextAt, blockAt, blockNext, reportText, sessionText};
+use input_read::Input;
 use libc::STDOUT_FILENO;
 use types::Network;
 use types::StreamPlace;
 use walk_read::StepRead;
 
-// A line of the report: how long it is, and the place of the next step, if there is one.
+// Lines of the report: how many bytes they take, and the place of the next step, if there is one.
 pub struct Next {
     pub len: usize,
     pub at: StreamPlace,
@@ -25,34 +24,72 @@ const MAX_INPUT: usize = 65536;
 // The Peers cap of the program `session`.
 const CAP: usize = 64;
 
-// Prints what the program `session` prints of its input, and gives how many lines that is: `long` where the input is too long, otherwise its report.
-pub fn print_session(s: &[u8]) -> usize
-    ensures { λ r. ⌜ r ≡ sessionLines (now (s .entry)) ⌝ }
+// All that the program `session` does: it reads its input, of which one byte more than the longest is enough to tell, and prints `unread` where a read
+// failed, otherwise what it prints of the input.
+pub fn print_input(fd: i32) {
+    let mut input = [0u8; MAX_INPUT + 1];
+    let read = input_read::read_input(fd, &mut input);
+    match read {
+        Input::Bytes(n) => {
+            print_session(&input[..n]);
+        }
+        Input::Failed => {
+            io::write_all(STDOUT_FILENO, b"unread\n");
+        }
+    }
+}
+
+// Prints `long` where the input is too long, otherwise its report as a session of mainnet with the cap 64, and gives how many bytes that is.
+pub fn print_session(s: &[u8]) -> u64
+    ensures { λ r. ⌜ r ≡ length (sessionText (now (s .entry))) % 2 ^ 64 ⌝ }
 {
     if MAX_INPUT < s.len() {
         io::write_all(STDOUT_FILENO, b"long\n");
-        return 1;
+        return 5;
     }
     print_report(s, Network::Mainnet, CAP)
 }
 
-// Prints the report of a session, a line for each item and one for how it ends, and gives how many lines there are.
-pub fn print_report(s: &[u8], network: Network, cap: usize) -> usize
-    ensures { λ r. ⌜ r ≡ length (sessionReading network cap (now (s .entry)) .items) + 1 ⌝ }
+// Prints the report of a session, block by block, and gives how many bytes it has, modulo 2^64.
+pub fn print_report(s: &[u8], network: Network, cap: usize) -> u64
+    ensures { λ r. ⌜ r ≡ length (reportText network cap (now (s .entry))) % 2 ^ 64 ⌝ }
 {
     let mut at = 0;
     let mut more = true;
-    let mut lines = 0;
+    let mut printed = 0;
     while more {
-        let mut line = [0u8; 192];
-        let next = next_line(&mut line, s, network, cap, StreamPlace(at));
-        let n = io::count(next.len as isize, &line);
-        io::write_all(STDOUT_FILENO, &line[..n]);
+        let mut block = [0u8; 65536];
+        let next = put_lines(&mut block, s, network, cap, StreamPlace(at));
+        io::write_all(STDOUT_FILENO, &block[..next.len]);
         at = next.at.0;
         more = next.more;
-        lines += 1;
+        printed = std::num::wrapping_add_u64(printed, next.len as u64);
     }
-    lines
+    printed
+}
+
+// Lines of the report of a session, from a place on: as many as leave room for a longest one before each.
+pub fn put_lines(out: &mut [u8], s: &[u8], network: Network, cap: usize, at: StreamPlace) -> Next
+    ensures { λ r. ⌜ r ≡ blockNext (blockAt network cap (now (s .entry)) (length (now (out .entry))) (at .0)) ⌝ }
+    ensures { λ r. ⌜ now (out .exit) ≡ put (now (out .entry)) 0 (blockAt network cap (now (s .entry)) (length (now (out .entry))) (at .0) .text) ⌝ }
+    ensures { λ r. ⌜ Counts (r .len) (now (out .exit)) ⌝ }
+{
+    let mut len = 0;
+    let mut place = at.0;
+    let mut more = true;
+    while more && 192 <= out.len() - len {
+        let mut line = [0u8; 192];
+        let next = next_line(&mut line, s, network, cap, StreamPlace(place));
+        part_write::write_part(out, len, &line[..next.len]);
+        len += next.len;
+        place = next.at.0;
+        more = next.more;
+    }
+    Next {
+        len,
+        at: StreamPlace(place),
+        more,
+    }
 }
 
 // The line of the step at a place of a session. A place past the session's length has no line.
@@ -63,8 +100,8 @@ pub fn next_line(
     cap: usize,
     at: StreamPlace,
 ) -> Next
-    ensures { λ r. ⌜ r ≡ nextOf (stepOf network (now (s .entry)) (sessionStep network cap (now (s .entry)) (at .0))) at (length (now (s .entry))) ⌝ }
-    ensures { λ r. ⌜ now (line .exit) ≡ put (now (line .entry)) 0 (lineOf (stepOf network (now (s .entry)) (sessionStep network cap (now (s .entry)) (at .0))) (length (now (s .entry)))) ⌝ }
+    ensures { λ r. ⌜ r ≡ nextAt network cap (now (s .entry)) (at .0) ⌝ }
+    ensures { λ r. ⌜ now (line .exit) ≡ put (now (line .entry)) 0 (lineAt network cap (now (s .entry)) (at .0)) ⌝ }
     ensures { λ r. ⌜ r .len ≤ 192 ⌝ }
 {
     let step = walk_read::step(s, network, cap, at);

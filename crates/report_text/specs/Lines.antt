@@ -1,8 +1,16 @@
 -- The lines that the program `session` prints (document 01, "At the edges"), as bytes in ASCII.
+use Prim.Native.Char as Char
 use Prim.Native.Nat.{ℕ, zero, suc, _+_, _/_, _%_}
+use Prim.Native.String.{String}
+use Prim.Native.String as String
 use mathlib.Core.Bool.{cond}
 use mathlib.Core.List.{List, [], _∷_, _++_}
 use lib.Dec.{ltb}
+
+-- the bytes of a text
+abbrev pub ascii : String → List ℕ
+ascii String.[] = []
+ascii (String._∷_ c text) = Char.code c ∷ ascii text
 
 -- n in decimal, of at most f digits
 unfoldable pub decimalIn : ℕ → ℕ → List ℕ
@@ -18,29 +26,29 @@ unfoldable pub field : List ℕ → ℕ → List ℕ
 field text n = text ++ decimal n
 
 abbrev pub lineEnd : List ℕ
-lineEnd = 10 ∷ []
+lineEnd = ascii "\n"
 
 -- a text, the start and the end of an item
 unfoldable pub span : List ℕ → ℕ → ℕ → List ℕ
-span text start end = field text start ++ field (32 ∷ []) end
+span text start end = field text start ++ field (ascii " ") end
 
 -- " version 6.0.1"
 unfoldable pub versionText : ℕ → ℕ → ℕ → List ℕ
 versionText major minor patch =
-    field (32 ∷ 118 ∷ 101 ∷ 114 ∷ 115 ∷ 105 ∷ 111 ∷ 110 ∷ 32 ∷ []) major ++ (field (46 ∷ []) minor ++ field (46 ∷ []) patch)
+    field (ascii " version ") major ++ (field (ascii ".") minor ++ field (ascii ".") patch)
 
 -- "handshake 0 11 version 6.0.1 verdict 0"
 unfoldable pub handshakeLine : ℕ → ℕ → ℕ → ℕ → ℕ → ℕ → List ℕ
 handshakeLine start end major minor patch verdict =
-    span (104 ∷ 97 ∷ 110 ∷ 100 ∷ 115 ∷ 104 ∷ 97 ∷ 107 ∷ 101 ∷ 32 ∷ []) start end
+    span (ascii "handshake ") start end
     ++ (versionText major minor patch
-    ++ (field (32 ∷ 118 ∷ 101 ∷ 114 ∷ 100 ∷ 105 ∷ 99 ∷ 116 ∷ 32 ∷ []) verdict
+    ++ (field (ascii " verdict ") verdict
     ++ lineEnd))
 
 -- "message 11 20 code 1"
 unfoldable pub messageText : ℕ → ℕ → ℕ → List ℕ
 messageText start end code =
-    span (109 ∷ 101 ∷ 115 ∷ 115 ∷ 97 ∷ 103 ∷ 101 ∷ 32 ∷ []) start end ++ field (32 ∷ 99 ∷ 111 ∷ 100 ∷ 101 ∷ 32 ∷ []) code
+    span (ascii "message ") start end ++ field (ascii " code ") code
 
 unfoldable pub messageLine : ℕ → ℕ → ℕ → List ℕ
 messageLine start end code = messageText start end code ++ lineEnd
@@ -49,24 +57,24 @@ messageLine start end code = messageText start end code ++ lineEnd
 unfoldable pub peersLine : ℕ → ℕ → ℕ → ℕ → ℕ → List ℕ
 peersLine start end code entries bogus =
     messageText start end code
-    ++ (field (32 ∷ 101 ∷ 110 ∷ 116 ∷ 114 ∷ 105 ∷ 101 ∷ 115 ∷ 32 ∷ []) entries
-    ++ (field (32 ∷ 98 ∷ 111 ∷ 103 ∷ 117 ∷ 115 ∷ 32 ∷ []) bogus
+    ++ (field (ascii " entries ") entries
+    ++ (field (ascii " bogus ") bogus
     ++ lineEnd))
 
--- "stop handshake ", "stop frame ", "stop body "
+-- what stands before a stop's number, by its layer
 abbrev pub stopHandshake : List ℕ
-stopHandshake = 115 ∷ 116 ∷ 111 ∷ 112 ∷ 32 ∷ 104 ∷ 97 ∷ 110 ∷ 100 ∷ 115 ∷ 104 ∷ 97 ∷ 107 ∷ 101 ∷ 32 ∷ []
+stopHandshake = ascii "stop handshake "
 
 abbrev pub stopFrame : List ℕ
-stopFrame = 115 ∷ 116 ∷ 111 ∷ 112 ∷ 32 ∷ 102 ∷ 114 ∷ 97 ∷ 109 ∷ 101 ∷ 32 ∷ []
+stopFrame = ascii "stop frame "
 
 abbrev pub stopBody : List ℕ
-stopBody = 115 ∷ 116 ∷ 111 ∷ 112 ∷ 32 ∷ 98 ∷ 111 ∷ 100 ∷ 121 ∷ 32 ∷ []
+stopBody = ascii "stop body "
 
--- the layer's text, the number, the start
+-- "stop frame 5 11": the layer, the number, the start
 unfoldable pub stopLine : List ℕ → ℕ → ℕ → List ℕ
 stopLine text number start = span text number start ++ lineEnd
 
 -- "end 20"
 unfoldable pub endLine : ℕ → List ℕ
-endLine length = field (101 ∷ 110 ∷ 100 ∷ 32 ∷ []) length ++ lineEnd
+endLine length = field (ascii "end ") length ++ lineEnd

@@ -1,13 +1,17 @@
 // Reads inputs of the program `session` from standard input, each behind its length (three bytes, little-endian), and prints what it prints of them, one
-// after the other.
+// after the other; and last what it prints where its input can't be read.
 ghost use Prim.Native.Nat.{_≤_, _<_};
 ghost use lib.ListN.{length};
 use libc::STDIN_FILENO;
+
+// No file has this descriptor, so that a read of it fails.
+const NO_FILE: i32 = -1;
 
 fn main() {
     let mut sessions = [0u8; 262144];
     let n = io::read_full(STDIN_FILENO, &mut sessions);
     print_reports(&sessions[..n]);
+    report::print_input(NO_FILE);
 }
 
 // The reports of all sessions; at one that is not there whole it ends.
