@@ -7,8 +7,8 @@ use mathlib.Core.Path.{_≡_, refl, sym, ap, _∙_}
 use lib.ListN.{length, length-append, take}
 use lib.Seq.{length-take-le}
 use Rattle.wire.specs.declared.Written.{Written}
-use Rattle.wire.specs.Output.{put, written, outputAfter}
-use Rattle.wire.specs.OutputLaws.{length-put, put-here, Wrote, Writing, writing-start, writing-turn, writing-end, wrote-checked}
+use Rattle.wire.specs.Output.{put, written, outputAfter, Wrote}
+use Rattle.wire.specs.OutputLaws.{length-put, put-here, Writing, writing-start, writing-turn, writing-end, wrote-checked}
 use Rattle.types.specs.declared.Network.{Network}
 use Rattle.types.specs.declared.StreamPlace.{StreamPlace}
 use Rattle.walk.specs.Session.{sessionStep}
