@@ -1,3 +1,4 @@
 pub mod Results
 pub mod Frames
 pub mod Configs
+pub mod Cases
