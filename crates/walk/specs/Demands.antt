@@ -5,14 +5,15 @@ use mathlib.Core.List.{List, [], _∷_, _++_, map}
 use mathlib.Core.Logic.{_↔_, _⊎_}
 use mathlib.Core.Path.{_≡_}
 use lib.ListN.{length, take, drop}
+use Rattle.wire.specs.declared.Written.{Written}
 use Rattle.wire.specs.declared.Written.the-variants.{To, Refused}
 use Rattle.types.specs.declared.Network.{Network}
 use Rattle.messages.specs.Writes.{MessageWrite, valueOf}
 use Rattle.walk.specs.Walk as Walk
 use Rattle.walk.specs.Walk.{Layer, Item, clean, stopped, Reading}
 use Rattle.walk.specs.Session.{Content, sessionReading}
-use Rattle.walk.specs.WrittenSession.{Write, writeMessage, Value, messageOf, writeValue, fieldsValue, writeBytes, Done}
-use Rattle.walk.specs.Calls.{Called, Calls}
+use Rattle.walk.specs.WrittenSession.{Write, writeMessage, Value, messageOf, writeValue, fieldsValue, AllTyped, writeBytes, Done, writeAll}
+use Rattle.walk.specs.Calls.{nextPlace, withAccepted, Called, Calls}
 
 -- `Exactly P part full`: part is exactly those of full of which P holds, in order
 pub data Exactly {A : Type 0} (P : A → Type 0) : List A → List A → Type 0 where
@@ -82,6 +83,18 @@ module _ (network : Network) (cap : ℕ) where
   CutOwnStop =
       (s : List ℕ) (k : ℕ) → k ≤ length s → (layer : Layer) (n at : ℕ)
       → readingOf (take k s) .ending ≡ stopped layer n at → ¬ (IsCut layer n) → readingOf s .ending ≡ stopped layer n at
+
+  -- "for every list of our handshake and message writes": however many there are, they can be called one after the other,
+  abbrev pub EveryList : Type 0
+  EveryList =
+      (ws : List Write) → AllTyped ws → (out : List ℕ) (at : ℕ) → Calls network cap ws out at (writeAll network cap ws out at)
+
+  -- and a call that meets its writer's contract can stand before any calls that go on from what it left.
+  abbrev pub CallsGoOn : Type 0
+  CallsGoOn =
+      (w : Write) (ws : List Write) (out left : List ℕ) (at : ℕ) (r : Written) (d : Done)
+      → Called network cap w out at r left → Calls network cap ws left (nextPlace r at) d
+      → Calls network cap (w ∷ ws) out at (record { out = d .out; at = d .at; accepted = withAccepted w r (d .accepted) })
 
   -- "And for every list of our handshake and message writes from the start of one output, refused ones included, in which exactly one handshake is
   -- accepted, before any message is: the bytes written read as that handshake and the accepted messages, in order and by value, ending cleanly."

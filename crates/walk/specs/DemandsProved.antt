@@ -21,7 +21,9 @@ use Rattle.walk.specs.CutRule.{endBy, lastEnd, EndsAt, here, there}
 use Rattle.walk.specs.WrittenSession as Session
 use Rattle.walk.specs.WrittenSession.{Write, writeHandshake, writeBuilt, writeMessage, Value, handshakeOf, messageOf, writeValue, writeBytes, sessionBytes, isHandshake, OnlyMessages, HandshakeFirst, first, itemValues}
 use Rattle.walk.specs.SessionLaws.{session-writers}
-use Rattle.walk.specs.Demands.{Exactly, none, with, without, AnEnd, IsCut, OfHandshake, Answered, RefusedLeaves, ChangesItsBytes, CutItems, CutCleanly, CutStops, CutOwnStop, WritesRead, EqualBytes}
+use Rattle.walk.specs.Demands.{Exactly, none, with, without, AnEnd, IsCut, OfHandshake, Answered, RefusedLeaves, ChangesItsBytes, CutItems, CutCleanly, CutStops, CutOwnStop, EveryList, CallsGoOn, WritesRead, EqualBytes}
+use Rattle.walk.specs.Calls.{call}
+use Rattle.walk.specs.CallsLaws.{write-all-calls}
 use Rattle.walk.specs.TheoremsProved.{cut-anywhere, reads-as-written, one-meaning, ends}
 
 -- ---- the cut rule's words
@@ -151,6 +153,12 @@ module _ (network : Network) (cap : ℕ) where
 
   pub cut-own-stop : CutOwnStop network cap
   cut-own-stop s k h layer n at e not = cut-anywhere network cap s k h .own layer n at e (λ t. not (is-cut layer n t))
+
+  pub every-list : EveryList network cap
+  every-list ws t = write-all-calls network cap t
+
+  pub calls-go-on : CallsGoOn network cap
+  calls-go-on w ws out left at r d = call
 
   pub writes-read : WritesRead network cap
   unfolding itemValues sessionBytes
