@@ -15,16 +15,17 @@ use Rattle.types.specs.declared.Network.{Network}
 use Rattle.messages.specs.Value.{MessageValue}
 use Rattle.messages.specs.Writes.{MessageWrite, valueOf}
 use Rattle.walk.specs.Walk as Walk
-use Rattle.walk.specs.Walk.{Layer, Item, isCut}
+use Rattle.walk.specs.Walk.{Layer, Item, Reading, isCut}
 use Rattle.walk.specs.Session.{Content}
 use Rattle.walk.specs.CutRule.{endBy, lastEnd, EndsAt, here, there}
 use Rattle.walk.specs.WrittenSession as Session
 use Rattle.walk.specs.WrittenSession.{Write, writeHandshake, writeBuilt, writeMessage, Value, handshakeOf, messageOf, writeValue, writeBytes, sessionBytes, isHandshake, OnlyMessages, HandshakeFirst, first, itemValues}
 use Rattle.walk.specs.SessionLaws.{session-writers}
-use Rattle.walk.specs.Demands.{Exactly, none, with, without, AnEnd, IsCut, OfHandshake, Answered, RefusedLeaves, ChangesItsBytes, CutItems, CutCleanly, CutStops, CutOwnStop, EveryList, CallsGoOn, WritesRead, EqualBytes}
+use Rattle.walk.specs.Demands.{Exactly, none, with, without, AnEnd, IsCut, OfHandshake, Answered, RefusedLeaves, ChangesItsBytes, CutItems, CutCleanly, CutStops, CutOwnStop, EveryList, CallsGoOn, WritesRead, EqualBytes, ReadsOn, GrowsAtCut, GrowsAtEnd, StopStays}
 use Rattle.walk.specs.Calls.{call}
 use Rattle.walk.specs.CallsLaws.{write-all-calls}
-use Rattle.walk.specs.TheoremsProved.{cut-anywhere, reads-as-written, one-meaning, ends}
+use Rattle.walk.specs.Theorems.{GoesOn}
+use Rattle.walk.specs.TheoremsProved.{cut-anywhere, line-grows, reads-as-written, one-meaning, ends}
 
 -- ---- the cut rule's words
 
@@ -175,3 +176,18 @@ module _ (network : Network) (cap : ℕ) where
       let m : map writeValue (h ∷ map writeMessage ms) ≡ map writeValue (h′ ∷ map writeMessage ms′) =
       sym (ap (map writeValue) e) ∙ one-meaning network cap ws ws′ out out′ d d′ calls calls′ f f′ b ∙ ap (map writeValue) e′ in
       (cc, sym (messages-after h o ms) ∙ ap messagesOf m ∙ messages-after h′ o′ ms′)
+
+  reads-on : {s t : List ℕ} {at : ℕ} → GoesOn network cap s t at → ReadsOn network cap s t at
+  reads-on g =
+      (λ r q. let e : r ≡ g .rest = g .steps r .0 q in rw (g .whole, e) (refl, refl), (g .rest, g .steps (g .rest) .1 refl))
+
+  pub grows-at-cut : GrowsAtCut network cap
+  grows-at-cut s t layer n at q c = reads-on (line-grows network cap s t .stops layer n at q)
+
+  pub grows-at-end : GrowsAtEnd network cap
+  grows-at-end s t q = reads-on (line-grows network cap s t .ended q)
+
+  pub stop-stays : StopStays network cap
+  stop-stays s t layer n at q not =
+      let e = line-grows network cap s t .stays layer n at q (λ c. not (is-cut layer n c)) in
+      rw e (refl, q)
