@@ -1,5 +1,5 @@
 -- The values of both handshakes and all seven messages at the extremes of their types, written out: what each write has by its arguments, and what a
--- reading of its bytes says. One table, and two lemmas cover it.
+-- reading of its bytes says. One list, and two lemmas cover it.
 use Prim.Native.Nat.{ℕ}
 use mathlib.Core.Bool.{true}
 use mathlib.Core.List.{List, [], _∷_, _++_, map, flatMap}
@@ -48,6 +48,16 @@ lastChar = 0xf4 ∷ 0x8f ∷ 0xbf ∷ 0xbf ∷ []
 abbrev ones : ℕ → List ℕ
 ones n = replicate n 255
 
+-- the VLQs of the three numbers
+abbrev vlqU64 : List ℕ
+vlqU64 = ones 9 ++ (1 ∷ [])
+
+abbrev vlqU32 : List ℕ
+vlqU32 = ones 4 ++ (0x0f ∷ [])
+
+abbrev vlqU16 : List ℕ
+vlqU16 = ones 2 ++ (0x03 ∷ [])
+
 -- "ab", "cde" and "fghijkl"
 abbrev ab : List ℕ
 ab = 0x61 ∷ 0x62 ∷ []
@@ -58,26 +68,19 @@ cde = 0x63 ∷ 0x64 ∷ 0x65 ∷ []
 abbrev fghijkl : List ℕ
 fghijkl = 0x66 ∷ 0x67 ∷ 0x68 ∷ 0x69 ∷ 0x6a ∷ 0x6b ∷ 0x6c ∷ []
 
--- their VLQs
-abbrev vlqU64 : List ℕ
-vlqU64 = ones 9 ++ (1 ∷ [])
-
-abbrev vlqU32 : List ℕ
-vlqU32 = ones 4 ++ (0x0f ∷ [])
-
-abbrev vlqU16 : List ℕ
-vlqU16 = ones 2 ++ (0x03 ∷ [])
-
 -- ---- two entries: by their tables, by value, and their bytes. The numbers of a row are all different, so that no column stands for another
+
+abbrev row0 : List ℕ
+row0 = 3 ∷ 4 ∷ 253 ∷ 254 ∷ 255 ∷ 7 ∷ 2 ∷ 20 ∷ 9 ∷ maxU16 ∷ 0 ∷ 1 ∷ []
+
+abbrev row1 : List ℕ
+row1 = 45 ∷ 3 ∷ 4 ∷ 5 ∷ 6 ∷ 48 ∷ 7 ∷ 8 ∷ 41 ∷ 513 ∷ 1 ∷ 2 ∷ []
 
 abbrev tables : Lent
 tables =
-    lent (
-    3 ∷ 4 ∷ 253 ∷ 254 ∷ 255 ∷ 7 ∷ 2 ∷ 20 ∷ 9 ∷ maxU16 ∷ 0 ∷ 1
-    ∷ 45 ∷ 3 ∷ 4 ∷ 5 ∷ 6 ∷ 48 ∷ 7 ∷ 8 ∷ 41 ∷ 513 ∷ 1 ∷ 2 ∷ []
-    )
+    lent (row0 ++ row1)
     (255 ∷ 9 ∷ 2 ∷ 17 ∷ 41 ∷ 3 ∷ 0 ∷ 45 ∷ 4 ∷ [])
-    (ones 3 ++ (lastChar ++ (ab ++ (ones 32 ++ (1 ∷ 2 ∷ 3 ∷ 4 ∷ (cde ++ fghijkl))))))
+    (ones 3 ++ (lastChar ++ (ab ++ (ones 32 ++ (1 ∷ 2 ∷ 3 ∷ 4 ∷ (cde ++ (fghijkl ++ (255 ∷ []))))))))
 
 -- the 32 bytes of the buffer from 23 on; from 9 on they are all 255
 abbrev lastId : List ℕ
