@@ -137,16 +137,16 @@ module _ (network : Network) (cap : ℕ) where
       → take (d .at) (d .out) ≡ take (d′ .at) (d′ .out)
       → (writeValue h ≡ writeValue h′) × (map valueOf ms ≡ map valueOf ms′)
 
-  -- ---- bytes that come after others
+  -- ---- a line that grows
 
-  -- the reading of s and then t is the items of s and then the answers of the steps from a place on, and there are such answers
+  -- the reading of s ++ t has the items of s and then those of the steps from a place on, and ends as they do; and these steps come to an end
   abbrev pub ReadsOn : List ℕ → List ℕ → ℕ → Type 0
   ReadsOn s t at =
       ((r : Reading Content) → StepsFrom network cap (s ++ t) at r
       → (readingOf (s ++ t) .items ≡ readingOf s .items ++ r .items) × (readingOf (s ++ t) .ending ≡ r .ending))
       × ((r : Reading Content) × StepsFrom network cap (s ++ t) at r)
 
-  -- where the reading of s stops on a cut, from the stop's place on;
+  -- "where the reading of `s` stops on a cut, the reading of `s ++ t` has the items of `s` and then those of the steps from that stop's place on;
   abbrev pub GrowsAtCut : Type 0
   GrowsAtCut = (s t : List ℕ) (layer : Layer) (n at : ℕ) → readingOf s .ending ≡ stopped layer n at → IsCut layer n → ReadsOn s t at
 
@@ -154,7 +154,7 @@ module _ (network : Network) (cap : ℕ) where
   abbrev pub GrowsAtEnd : Type 0
   GrowsAtEnd = (s t : List ℕ) → readingOf s .ending ≡ clean → ReadsOn s t (length s)
 
-  -- and a stop that is no cut stays as it is.
+  -- and a stop that is no cut stays as it is"
   abbrev pub StopStays : Type 0
   StopStays =
       (s t : List ℕ) (layer : Layer) (n at : ℕ) → readingOf s .ending ≡ stopped layer n at → ¬ (IsCut layer n)
@@ -162,7 +162,7 @@ module _ (network : Network) (cap : ℕ) where
 
   -- ---- places
 
-  -- each part of a reading has the bytes that stand at its place in the session
+  -- "every segment of a reading of `s` has the bytes that stand at its place in `s`", a message's through the start of its body
   abbrev pub PartsStand : Type 0
   PartsStand =
       (s : List ℕ) → Each (λ i. Each (λ g. take (length (g .bytes)) (drop (g .start) s) ≡ g .bytes) (itemParts (i .holds .fields))) (readingOf s .items)
