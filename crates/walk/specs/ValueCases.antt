@@ -1,5 +1,5 @@
 -- The values of both handshakes and all seven messages at the extremes of their types, written out: what each write has by its arguments, and what a
--- reading of its bytes says. One table, and two lemmas cover it.
+-- reading of its bytes says. One list, and two lemmas cover it.
 use Prim.Native.Nat.{ℕ}
 use mathlib.Core.Bool.{true}
 use mathlib.Core.List.{List, [], _∷_, _++_, map, flatMap}
@@ -48,10 +48,7 @@ lastChar = 0xf4 ∷ 0x8f ∷ 0xbf ∷ 0xbf ∷ []
 abbrev ones : ℕ → List ℕ
 ones n = replicate n 255
 
-abbrev lastVersion : Version
-lastVersion = record { major = 255; minor = 255; patch = 255 }
-
--- their VLQs
+-- the VLQs of the three numbers
 abbrev vlqU64 : List ℕ
 vlqU64 = ones 9 ++ (1 ∷ [])
 
@@ -61,25 +58,65 @@ vlqU32 = ones 4 ++ (0x0f ∷ [])
 abbrev vlqU16 : List ℕ
 vlqU16 = ones 2 ++ (0x03 ∷ [])
 
--- ---- an entry: by its tables, by value, and its bytes
+-- "ab", "cde" and "fghijkl"
+abbrev ab : List ℕ
+ab = 0x61 ∷ 0x62 ∷ []
+
+abbrev cde : List ℕ
+cde = 0x63 ∷ 0x64 ∷ 0x65 ∷ []
+
+abbrev fghijkl : List ℕ
+fghijkl = 0x66 ∷ 0x67 ∷ 0x68 ∷ 0x69 ∷ 0x6a ∷ 0x6b ∷ 0x6c ∷ []
+
+-- ---- two entries: by their tables, by value, and their bytes. The numbers of a row are all different, so that no column stands for another
+
+abbrev row0 : List ℕ
+row0 = 3 ∷ 4 ∷ 253 ∷ 254 ∷ 255 ∷ 7 ∷ 2 ∷ 20 ∷ 9 ∷ maxU16 ∷ 0 ∷ 1 ∷ []
+
+abbrev row1 : List ℕ
+row1 = 45 ∷ 3 ∷ 4 ∷ 5 ∷ 6 ∷ 48 ∷ 7 ∷ 8 ∷ 41 ∷ 513 ∷ 1 ∷ 2 ∷ []
 
 abbrev tables : Lent
-tables = lent (0 ∷ 4 ∷ 255 ∷ 255 ∷ 255 ∷ 0 ∷ 4 ∷ 20 ∷ 4 ∷ maxU16 ∷ 0 ∷ 1 ∷ []) (255 ∷ 4 ∷ 2 ∷ []) (lastChar ++ ones 32)
+tables =
+    lent (row0 ++ row1)
+    (255 ∷ 9 ∷ 2 ∷ 17 ∷ 41 ∷ 3 ∷ 0 ∷ 45 ∷ 4 ∷ [])
+    (ones 3 ++ (lastChar ++ (ab ++ (ones 32 ++ (1 ∷ 2 ∷ 3 ∷ 4 ∷ (cde ++ (fghijkl ++ (255 ∷ []))))))))
 
-abbrev entryWith : Address → List FeatureValue → EntryValue
-entryWith address features = record { agent = lastChar; version = lastVersion; name = lastChar; address = address; features = features }
+-- the 32 bytes of the buffer from 23 on; from 9 on they are all 255
+abbrev lastId : List ℕ
+lastId = ones 18 ++ (1 ∷ 2 ∷ 3 ∷ 4 ∷ (cde ++ fghijkl))
 
-abbrev tableEntry : EntryValue
-tableEntry = entryWith (V6 maxU64 maxU64 maxU16) (record { id = 255; body = ones 2 } ∷ [])
+abbrev entry0 : EntryValue
+entry0 =
+    record {
+      agent = lastChar;
+      version = record { major = 253; minor = 254; patch = 255 };
+      name = ab;
+      address = V6 maxU64 maxU64 maxU16;
+      features = record { id = 255; body = ones 2 } ∷ [];
+    }
 
--- agent, version and name
-abbrev headBytes : List ℕ
-headBytes = 4 ∷ (lastChar ++ (ones 3 ++ (4 ∷ lastChar)))
+abbrev entry1 : EntryValue
+entry1 =
+    record {
+      agent = cde;
+      version = record { major = 4; minor = 5; patch = 6 };
+      name = fghijkl;
+      address = V4 0x01020304 513;
+      features = record { id = 17; body = 1 ∷ 2 ∷ 3 ∷ [] } ∷ record { id = 0; body = cde ++ (0x66 ∷ []) } ∷ [];
+    }
 
-abbrev tableBytes : List ℕ
-tableBytes = headBytes ++ (1 ∷ 20 ∷ (ones 16 ++ (vlqU16 ++ (1 ∷ 255 ∷ 2 ∷ ones 2))))
+abbrev bytes0 : List ℕ
+bytes0 = 4 ∷ (lastChar ++ (253 ∷ 254 ∷ 255 ∷ 2 ∷ (ab ++ (1 ∷ 20 ∷ (ones 16 ++ (vlqU16 ++ (1 ∷ 255 ∷ 2 ∷ ones 2)))))))
+
+abbrev bytes1 : List ℕ
+bytes1 =
+    3 ∷ (cde ++ (4 ∷ 5 ∷ 6 ∷ 7 ∷ (fghijkl ++ (1 ∷ 8 ∷ 1 ∷ 2 ∷ 3 ∷ 4 ∷ 0x81 ∷ 4 ∷ 2 ∷ 17 ∷ 3 ∷ 1 ∷ 2 ∷ 3 ∷ 0 ∷ 4 ∷ (cde ++ (0x66 ∷ []))))))
 
 -- ---- what `build` is given: Light, -2^31 blocks to keep, the session id -2^63
+
+abbrev builtVersion : Version
+builtVersion = record { major = 255; minor = 254; patch = 253 }
 
 abbrev config : Config
 config =
@@ -90,8 +127,8 @@ config =
       verifying = true;
       blocksToKeep = negsuc 2147483647;
       agent = lastChar;
-      version = lastVersion;
-      name = lastChar;
+      version = builtVersion;
+      name = ab;
       address = V4 maxU32 maxU16;
       timestamp = maxU64;
       sessionId = negsuc 9223372036854775807;
@@ -104,10 +141,18 @@ abbrev sessionBody : List ℕ
 sessionBody = 1 ∷ 0 ∷ 2 ∷ 4 ∷ vlqU64
 
 abbrev builtEntry : EntryValue
-builtEntry = entryWith (V4 maxU32 maxU16) (record { id = 16; body = modeBody } ∷ record { id = 3; body = sessionBody } ∷ [])
+builtEntry =
+    record {
+      agent = lastChar;
+      version = builtVersion;
+      name = ab;
+      address = V4 maxU32 maxU16;
+      features = record { id = 16; body = modeBody } ∷ record { id = 3; body = sessionBody } ∷ [];
+    }
 
 abbrev builtBytes : List ℕ
-builtBytes = headBytes ++ (1 ∷ 8 ∷ (ones 4 ++ (vlqU16 ++ (2 ∷ 16 ∷ 9 ∷ (modeBody ++ (3 ∷ 14 ∷ sessionBody))))))
+builtBytes =
+    4 ∷ (lastChar ++ (255 ∷ 254 ∷ 253 ∷ 2 ∷ (ab ++ (1 ∷ 8 ∷ (ones 4 ++ (vlqU16 ++ (2 ∷ 16 ∷ 9 ∷ (modeBody ++ (3 ∷ 14 ∷ sessionBody)))))))))
 
 -- ---- a write, its value, and its bytes as they are opened
 
@@ -127,16 +172,17 @@ ofMessage write value code body =
 
 unfoldable pub cases : List Case
 cases =
-    ofHandshake (writeHandshake maxU64 tables 0) tableEntry tableBytes
+    ofHandshake (writeHandshake maxU64 tables 1) entry1 bytes1
     ∷ ofHandshake (writeBuilt config) builtEntry builtBytes
     ∷ ofMessage (writeMessage writeGetPeers) (messageOf getPeersValue) 1 []
-    ∷ ofMessage (writeMessage (writePeers tables)) (messageOf (peersValue (tableEntry ∷ []))) 2 (1 ∷ tableBytes)
-    ∷ ofMessage (writeMessage (writeModifierRequest 255 (4 ∷ []) (tables .buffer))) (messageOf (modifierRequestValue 255 (ones 32 ∷ []))) 22
-    (255 ∷ 1 ∷ ones 32)
-    ∷ ofMessage (writeMessage (writeModifierResponse 255 (4 ∷ 0 ∷ 5 ∷ []) (tables .buffer)))
-    (messageOf (modifierResponseValue 255 (record { id = ones 32; body = lastChar ++ (255 ∷ []) } ∷ []))) 33
-    (255 ∷ 1 ∷ (ones 32 ++ (5 ∷ (lastChar ++ (255 ∷ [])))))
-    ∷ ofMessage (writeMessage (writeInv 255 (4 ∷ []) (tables .buffer))) (messageOf (invValue 255 (ones 32 ∷ []))) 55 (255 ∷ 1 ∷ ones 32)
+    ∷ ofMessage (writeMessage (writePeers tables)) (messageOf (peersValue (entry0 ∷ entry1 ∷ []))) 2 (2 ∷ (bytes0 ++ bytes1))
+    ∷ ofMessage (writeMessage (writeModifierRequest 255 (9 ∷ 23 ∷ []) (tables .buffer))) (messageOf (modifierRequestValue 255 (ones 32 ∷ lastId ∷ []))) 22
+    (255 ∷ 2 ∷ (ones 32 ++ lastId))
+    ∷ ofMessage (writeMessage (writeModifierResponse 255 (9 ∷ 3 ∷ 6 ∷ 23 ∷ 45 ∷ 2 ∷ []) (tables .buffer)))
+    (messageOf (modifierResponseValue 255 (record { id = ones 32; body = lastChar ++ ab } ∷ record { id = lastId; body = 0x63 ∷ 0x64 ∷ [] } ∷ []))) 33
+    (255 ∷ 2 ∷ (ones 32 ++ (6 ∷ (lastChar ++ (ab ++ (lastId ++ (2 ∷ 0x63 ∷ 0x64 ∷ [])))))))
+    ∷ ofMessage (writeMessage (writeInv 255 (23 ∷ 9 ∷ []) (tables .buffer))) (messageOf (invValue 255 (lastId ∷ ones 32 ∷ []))) 55
+    (255 ∷ 2 ∷ (lastId ++ ones 32))
     ∷ ofMessage (writeMessage (writeSyncInfo (ones 3))) (messageOf (syncInfoValue (ones 3))) 65 (ones 3)
     ∷ ofMessage (writeMessage (writeUnknown 255 (ones 3))) (messageOf (unknownValue 255 (ones 3))) 255 (ones 3)
     ∷ []
