@@ -64,6 +64,13 @@ ofVersion major minor patch = 0 ∷ 0 ∷ major ∷ minor ∷ patch ∷ 0 ∷ 0 
 abbrev ofLength : ℕ → List ℕ
 ofLength l = 0 ∷ 0 ∷ 6 ∷ 0 ∷ 1 ∷ 0 ∷ 0 ∷ l ∷ 0 ∷ 0 ∷ 0 ∷ 0 ∷ []
 
+-- a row without address, with this address place; and one without features, with this first feature row
+abbrev ofPlace : ℕ → List ℕ
+ofPlace at = 0 ∷ 0 ∷ 6 ∷ 0 ∷ 1 ∷ 0 ∷ 0 ∷ 0 ∷ at ∷ 0 ∷ 0 ∷ 0 ∷ []
+
+abbrev ofFirst : ℕ → List ℕ
+ofFirst first = 0 ∷ 0 ∷ 6 ∷ 0 ∷ 1 ∷ 0 ∷ 0 ∷ 0 ∷ 0 ∷ 0 ∷ first ∷ 0 ∷ []
+
 -- n feature rows of id, place and length 0
 abbrev empty : ℕ → List ℕ
 empty n = replicate (3 * n) 0
@@ -161,6 +168,10 @@ cases =
     ∷ case (aHandshake (lent (ofLength 19) [] (good 16)) 0 0) (Refused 16)
     ∷ case (aHandshake (lent (ofLength 20) [] (good 16)) 0 0) (Refused 14)
     ∷ case (aHandshake (lent (ofLength 21) [] (good 17)) 0 0) (Refused 16)
+    -- with L = 0 the address place is not asked; without features the first row is, at most the number of rows
+    ∷ case (aHandshake (lent (ofPlace 3) [] (good 2)) 0 0) (Refused 14)
+    ∷ case (aHandshake (lent (ofFirst 2) (empty 2) []) 0 0) (Refused 14)
+    ∷ case (aHandshake (lent (ofFirst 3) (empty 2) []) 0 0) (Refused 12)
     ∷ []))
 
 pub all-cases : map (λ (c : Case). saidOf (c .write)) cases ≡ map (λ (c : Case). c .says) cases

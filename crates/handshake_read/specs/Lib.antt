@@ -4,3 +4,4 @@ pub mod Answers
 pub mod AnswerLaws
 pub mod Values
 pub mod ValuesLaws
+pub mod Cases

@@ -1,6 +1,7 @@
--- Document 01, "Messages" and "Questions", Body: what is read of message bodies at the edges, and the code and bytes of
--- each message.
+-- Document 01, "Messages" and "Questions", Body: what is read of message bodies at the edges, which codes are Unknown, and
+-- the code and bytes of each message.
 use Prim.Native.Nat.{ℕ}
+use mathlib.Core.Bool.{Bool, cond, not}
 use mathlib.Core.List.{List, [], _∷_, _++_, map, flatMap}
 use mathlib.Core.Path.{_≡_, refl}
 use lib.ListN.{replicate}
@@ -10,9 +11,10 @@ use Rattle.vlq.specs.Vlq.{groups, vlq, vlqLength, vlqIn, vlqBytes}
 use Rattle.vlq.specs.ShortString.{string, shortString}
 use Rattle.types.specs.declared.Address.the-variants.{None}
 use Rattle.handshake.specs.Entry.{version, addressIf, entry}
+use Rattle.handshake.specs.Tables.{rows}
 use Rattle.handshake.specs.Value.{addressBytes, featureBytes, versionBytes, entryBytes}
 use Rattle.messages.specs.Message.{Message, getPeers, peers, modifierRequest, modifierResponse, inv, syncInfo, unknown, count, header, ids, total, payloadAfter, payload, payloads, peersBody, whole, message}
-use Rattle.messages.specs.Value.{MessageValue, getPeersValue, peersValue, modifierRequestValue, modifierResponseValue, invValue, syncInfoValue, unknownValue, codeOf, idsBytes, payloadBytes, bodyBytes}
+use Rattle.messages.specs.Value.{MessageValue, getPeersValue, peersValue, modifierRequestValue, modifierResponseValue, invValue, syncInfoValue, unknownValue, codeOf, idsBytes, payloadBytes, bodyBytes, unknownCode}
 
 pub record Case : Type 0 where
   pub cap : ℕ
@@ -81,6 +83,38 @@ cases =
 pub all-cases : map (λ (c : Case). message (c .cap) (c .code) (c .body) 0) cases ≡ map (λ (c : Case). c .answer) cases
 unfolding cases message count header ids total payloadAfter payload payloads peersBody whole fold listOf groups vlq vlqLength string shortString utf8From utf8 version addressIf entry
 all-cases = refl
+
+-- ---- of all codes, those of the six messages, and the others
+
+unfoldable pub among : (ℕ → Bool) → List ℕ → List ℕ
+among test [] = []
+among test (n ∷ ns) = cond (test n) (n ∷ among test ns) (among test ns)
+
+abbrev codes : List ℕ
+codes = rows (λ n. n) 0 256
+
+abbrev six : List ℕ
+six = 1 ∷ 2 ∷ 22 ∷ 33 ∷ 55 ∷ 65 ∷ []
+
+-- a body of two bytes under each code
+abbrev readAs : ℕ → Answer Message
+readAs code = message 64 code (0 ∷ 0 ∷ []) 0
+
+pub all-known : among (λ code. not (unknownCode code)) codes ≡ six
+unfolding among rows unknownCode
+all-known = refl
+
+pub all-read : (map readAs (among unknownCode codes) ≡ replicate 250 (got (unknown (0 ∷ 0 ∷ [])) 2))
+    × (map readAs six
+    ≡ got getPeers 0
+    ∷ got (peers []) 1
+    ∷ got (modifierRequest 0 []) 2
+    ∷ got (modifierResponse 0 []) 2
+    ∷ got (inv 0 []) 2
+    ∷ got (syncInfo (0 ∷ 0 ∷ [])) 2
+    ∷ [])
+unfolding among rows unknownCode message count header ids payloads peersBody whole fold listOf groups vlq vlqLength
+all-read = (refl, refl)
 
 -- ---- a message's code and the bytes of its body
 

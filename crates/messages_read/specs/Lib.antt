@@ -3,3 +3,4 @@ pub mod Answers
 pub mod PartsLaws
 pub mod Values
 pub mod ValuesLaws
+pub mod Cases
