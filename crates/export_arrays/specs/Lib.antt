@@ -2,3 +2,4 @@ pub mod Networks
 pub mod Entries
 pub mod Messages
 pub mod Steps
+pub mod Cases

@@ -134,6 +134,18 @@ fn edges() -> Vec<Case> {
     let handshakes: [&[u8]; 3] =
         [&[0xff; 10], &[0, 2, 0xc0, 0x80], &[0, 0, 4, 0, 100, 0, 0, 1, 5, 0x81, 0xa4, 0xe8, 0x07]];
     edges.extend(handshakes.map(|handshake| Case::new(&[1, 64], handshake)));
+    // Each verdict: versions below 4.0.100, Sessions of mainnet and of testnet, and both at once.
+    let judged: [&[u8]; 5] = [
+        &[5, 0, 4, 0, 99, 0, 0, 0],
+        &[5, 1, 97, 3, 255, 255, 0, 0, 0],
+        &[5, 0, 4, 0, 100, 0, 0, 1, 3, 5, 1, 0, 2, 4, 9],
+        &[5, 1, 97, 4, 0, 100, 0, 0, 1, 3, 5, 2, 3, 2, 3, 9],
+        &[5, 0, 4, 0, 99, 0, 1, 8, 8, 8, 8, 8, 9, 1, 3, 5, 2, 3, 2, 3, 9],
+    ];
+    for handshake in judged {
+        let session = [handshake, &bytes[11..]].concat();
+        edges.extend([0, 1].map(|mainnet| Case::new(&[mainnet, 64], &session)));
+    }
     edges
 }
 
