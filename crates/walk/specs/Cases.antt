@@ -32,6 +32,7 @@ use Rattle.walk.specs.Walk as Walk
 use Rattle.walk.specs.Walk.{Layer, Opened, opened, refusedIn, Item, Step, item, cleanEnd, stop, outside, Ending, clean, stopped, Reading, isCut, stepTo, onward, step, walkIn, walk, reading}
 use Rattle.walk.specs.CutRule.{endBy}
 use Rattle.messages.specs.Bogus.{bogusCount}
+use Rattle.messages.specs.Cases.{among}
 use Rattle.walk.specs.Session.{handshakeFields, messageFields, Verdict, peerVerdict, peersVerdict, noVerdict, Content, messageVerdict, handshakeItem, messageItem, frameItem, handshakeAt, messageAt, sessionStep, sessionReading}
 use Rattle.walk.specs.WrittenSession as Writes
 use Rattle.walk.specs.Calls.{Calls}
@@ -143,10 +144,6 @@ unfolding steps sessionStep step stepTo handshakeAt messageAt handshakeItem fram
 all-steps = refl
 
 -- ---- of all the refusal numbers, those that are cuts in each layer
-
-unfoldable pub among : (ℕ → Bool) → List ℕ → List ℕ
-among test [] = []
-among test (n ∷ ns) = cond (test n) (n ∷ among test ns) (among test ns)
 
 pub all-numbers : map (λ (layer : Layer). among (isCut layer) (Tables.rows (λ n. n) 0 17)) (Walk.handshake ∷ Walk.frame ∷ Walk.body ∷ [])
     ≡ (1 ∷ []) ∷ (5 ∷ 8 ∷ []) ∷ [] ∷ []
