@@ -9,13 +9,19 @@ use Rattle.walk.specs.WrittenSession.{Write, writeValue, Done, sessionBytes, Ha
 use Rattle.walk.specs.Calls.{Calls}
 use Rattle.walk_read.specs.declared.StepRead.{StepRead}
 use Rattle.walk_read.specs.Given.{GivenFrom}
-use Rattle.walk_read.specs.Values.{givenValues}
+use Rattle.walk_read.specs.Values.{givenValues, verdictGiven}
 
 module _ (network : Network) (cap : ℕ) where
   -- The values that a caller puts together from what the steps and the readers by index give are those of the reading's items, in order.
   abbrev pub GivenSaysReading : Type 0
   GivenSaysReading =
       (s : List ℕ) (r : Reading StepRead) → GivenFrom network cap s 0 r → givenValues cap s (r .items) ≡ itemValues (sessionReading network cap s .items)
+
+  -- The verdicts that are given are those of the reading's items, in order.
+  abbrev pub GivenVerdicts : Type 0
+  GivenVerdicts =
+      (s : List ℕ) (r : Reading StepRead) → GivenFrom network cap s 0 r
+      → map (λ i. verdictGiven (i .holds)) (r .items) ≡ map (λ i. i .holds .verdict) (sessionReading network cap s .items)
 
   -- Written sessions as given: over the bytes of every list of calls as in `ReadsAsWritten`, the values that a caller puts together from what the steps
   -- and the readers by index give are the accepted writes', in order, and the steps end cleanly.
