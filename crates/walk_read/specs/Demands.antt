@@ -1,0 +1,77 @@
+-- What the library was asked for of sessions, said over the answers of its steps. Each sentence stands beside its statement; `DemandsProved` derives it
+-- from the theorems on what is given, so that a weaker theorem doesn't serve.
+use Prim.Native.Nat.{ℕ, _+_, _≤_}
+use mathlib.Core.List.{List, [], _∷_, _++_, map}
+use mathlib.Core.Logic.{_↔_}
+use mathlib.Core.Path.{_≡_}
+use lib.ListN.{length, take}
+use Rattle.types.specs.declared.Network.{Network}
+use Rattle.handshake_read.specs.Parts.{featureAt}
+use Rattle.handshake_read.specs.Values.{entryPlace}
+use Rattle.messages.specs.Writes.{MessageWrite, valueOf}
+use Rattle.inventory_read.specs.Parts.{idAt, payloadAt}
+use Rattle.messages_read.specs.Parts.{entryAt}
+use Rattle.walk.specs.Walk.{Layer, Item, clean, stopped, Reading}
+use Rattle.walk.specs.WrittenSession.{Write, writeMessage, messageOf, writeValue, Done}
+use Rattle.walk.specs.Calls.{Calls}
+use Rattle.walk.specs.Demands.{Exactly, AnEnd, IsCut, OfHandshake}
+use Rattle.walk_read.specs.Given.{given, GivenFrom, partIn}
+use Rattle.walk_read.specs.Values.{givenValues}
+use Rattle.walk_read.specs.declared.HandshakeItem.{HandshakeItem}
+use Rattle.walk_read.specs.declared.MessageItem.{MessageItem}
+use Rattle.walk_read.specs.declared.StepRead.{StepRead}
+use Rattle.walk_read.specs.declared.StepRead.the-variants as StepReads
+
+module _ (network : Network) (cap : ℕ) where
+  -- ---- "cut a session of any bytes at whichever byte."
+
+  -- `full` is the answers over s, and `part` those over its first k bytes
+  pub record Cut (s : List ℕ) (k : ℕ) (full part : Reading StepRead) : Type 0 where
+    pub within : k ≤ length s
+    pub whole : GivenFrom network cap s 0 full
+    pub before : GivenFrom network cap (take k s) 0 part
+
+  -- "The part before the cut gives exactly those items of the full reading that end by the cut, in order, with the same fields and verdicts."
+  abbrev pub CutItems : Type 0
+  CutItems = (s : List ℕ) (k : ℕ) (full part : Reading StepRead) → Cut s k full part → Exactly (λ i. i .end ≤ k) (part .items) (full .items)
+
+  -- "It ends cleanly exactly when the cut is an item's end."
+  abbrev pub CutCleanly : Type 0
+  CutCleanly = (s : List ℕ) (k : ℕ) (full part : Reading StepRead) → Cut s k full part → (part .ending ≡ clean) ↔ AnEnd k (full .items)
+
+  -- "Otherwise it stops where the last of those items ends, or at 0 if there are none;"
+  abbrev pub CutStops : Type 0
+  CutStops =
+      (s : List ℕ) (k : ℕ) (full part : Reading StepRead) → Cut s k full part → ¬ (AnEnd k (full .items))
+      → (layer : Layer) × (n : ℕ) × (at : ℕ)
+      × (part .ending ≡ stopped layer n at)
+      × ((before : List (Item StepRead)) (last : Item StepRead) → part .items ≡ before ++ (last ∷ []) → at ≡ last .end)
+      × (part .items ≡ [] → at ≡ 0)
+
+  -- "and a stop that 01 doesn't count as a cut is the full reading's own, alike in layer, number and place."
+  abbrev pub CutOwnStop : Type 0
+  CutOwnStop =
+      (s : List ℕ) (k : ℕ) (full part : Reading StepRead) → Cut s k full part → (layer : Layer) (n at : ℕ)
+      → part .ending ≡ stopped layer n at → ¬ (IsCut layer n) → full .ending ≡ stopped layer n at
+
+  -- what is asked by index of a message that ends by the cut, or of a handshake, is answered over the part as over the whole
+  abbrev pub CutByIndex : Type 0
+  CutByIndex =
+      (s : List ℕ) (k at index : ℕ) → k ≤ length s →
+      ((i : MessageItem) → given network cap s at ≡ StepReads.Message i → i .end .0 ≤ k →
+      (idAt index (partIn (take k s) (i .body)) ≡ idAt index (partIn s (i .body)))
+      × (payloadAt index (partIn (take k s) (i .body)) ≡ payloadAt index (partIn s (i .body)))
+      × (entryAt cap index (partIn (take k s) (i .body)) ≡ entryAt cap index (partIn s (i .body))))
+      × ((i : HandshakeItem) → given network cap s at ≡ StepReads.Handshake i → i .end .0 ≤ k →
+      featureAt index (take k s) (entryPlace (i .handshake .peer)) ≡ featureAt index s (entryPlace (i .handshake .peer)))
+
+  -- ---- written sessions
+
+  -- "And for every list of our handshake and message writes from the start of one output, refused ones included, in which exactly one handshake is
+  -- accepted, before any message is: the bytes written read as that handshake and the accepted messages, in order and by value, ending cleanly."
+  abbrev pub WritesRead : Type 0
+  WritesRead =
+      (ws : List Write) (out : List ℕ) (d : Done) → Calls network cap ws out 0 d
+      → (h : Write) (ms : List MessageWrite) → OfHandshake h → d .accepted ≡ h ∷ map writeMessage ms
+      → (r : Reading StepRead) → GivenFrom network cap (take (d .at) (d .out)) 0 r
+      → (givenValues cap (take (d .at) (d .out)) (r .items) ≡ writeValue h ∷ map (λ m. messageOf (valueOf m)) ms) × (r .ending ≡ clean)
