@@ -75,3 +75,25 @@ module _ (network : Network) (cap : ℕ) where
       → (h : Write) (ms : List MessageWrite) → OfHandshake h → d .accepted ≡ h ∷ map writeMessage ms
       → (r : Reading StepRead) → GivenFrom network cap (take (d .at) (d .out)) 0 r
       → (givenValues cap (take (d .at) (d .out)) (r .items) ≡ writeValue h ∷ map (λ m. messageOf (valueOf m)) ms) × (r .ending ≡ clean)
+
+  -- ---- "a line that grows"
+
+  -- "where the reading of `s` stops on a cut, the reading of `s ++ t` has the items of `s` and then those of the steps from that stop's place on;"
+  abbrev pub GrowsFromStop : Type 0
+  GrowsFromStop =
+      (s t : List ℕ) (r q : Reading StepRead) (layer : Layer) (n at : ℕ)
+      → GivenFrom network cap s 0 r → r .ending ≡ stopped layer n at → GivenFrom network cap (s ++ t) at q
+      → GivenFrom network cap (s ++ t) 0 (record { items = r .items ++ q .items; ending = q .ending })
+
+  -- "where it ends cleanly, from the length on;"
+  abbrev pub GrowsFromEnd : Type 0
+  GrowsFromEnd =
+      (s t : List ℕ) (r q : Reading StepRead)
+      → GivenFrom network cap s 0 r → r .ending ≡ clean → GivenFrom network cap (s ++ t) (length s) q
+      → GivenFrom network cap (s ++ t) 0 (record { items = r .items ++ q .items; ending = q .ending })
+
+  -- "and a stop that is no cut stays as it is."
+  abbrev pub StopStays : Type 0
+  StopStays =
+      (s t : List ℕ) (r : Reading StepRead) (layer : Layer) (n at : ℕ)
+      → GivenFrom network cap s 0 r → r .ending ≡ stopped layer n at → ¬ (IsCut layer n) → GivenFrom network cap (s ++ t) 0 r

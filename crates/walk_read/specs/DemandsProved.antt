@@ -1,14 +1,26 @@
--- The demands, from the theorems on what is given.
-use Prim.Native.Nat.{ℕ}
-use mathlib.Core.List.{List, _∷_, map}
-use mathlib.Core.Path.{_≡_, sym, ap, _∙_}
+-- The demands, from the theorems on what is given and, of a line that grows, from that of the walk.
+use Prim.Native.Nat.{ℕ, _≤_}
+use native.Mathlib.Omega.{arith}
+use mathlib.Core.List.{List, [], _∷_, _++_, map, map-append}
+use mathlib.Core.Logic.{⊎-elim}
+use mathlib.Core.Path.{_≡_, refl, sym, ap, _∙_}
+use lib.ListN.{length, length-append, take}
+use lib.Seq.{take-append-seam}
+use Rattle.wire.specs.Numbers.{lt-or-ge}
 use Rattle.types.specs.declared.Network.{Network}
-use Rattle.walk.specs.CutRule.{lastEnd, CutRule}
+use Rattle.walk.specs.CallsLaws.{answers-once}
+use Rattle.walk.specs.CutRule.{endBy, lastEnd, CutRule}
+use Rattle.walk.specs.CutRuleLaws.{endBy-yes, endBy-no}
 use Rattle.walk.specs.DemandsProved.{exactly-by, an-end, end-at, last-end, no-items, is-cut, message-values, handshake-first}
-use Rattle.walk.specs.Walk.{Reading}
+use Rattle.walk.specs.Session.{Content, sessionReading}
+use Rattle.walk.specs.Theorems.{GoesOn}
+use Rattle.walk.specs.TheoremsProved.{cut-anywhere, line-grows}
+use Rattle.walk.specs.Walk.{Item, Reading}
 use Rattle.walk.specs.WrittenSession.{Value, writeValue, sessionBytes, HandshakeFirst}
-use Rattle.walk_read.specs.Demands.{Cut, CutItems, CutCleanly, CutStops, CutOwnStop, CutByIndex, WritesRead}
-use Rattle.walk_read.specs.GivenTheoremsProved.{given-by-cut, reached-by-index}
+use Rattle.walk_read.specs.Demands.{Cut, CutItems, CutCleanly, CutStops, CutOwnStop, CutByIndex, WritesRead, GrowsFromStop, GrowsFromEnd, StopStays}
+use Rattle.walk_read.specs.Given.{GivenFrom, itemGiven, givenReading}
+use Rattle.walk_read.specs.GivenLaws.{given-cut, seen, steps-given}
+use Rattle.walk_read.specs.GivenTheoremsProved.{given-are-reading, given-by-cut, reached-by-index}
 use Rattle.walk_read.specs.ValuesTheoremsProved.{given-as-written}
 use Rattle.walk_read.specs.declared.StepRead.{StepRead}
 
@@ -52,3 +64,52 @@ module _ (network : Network) (cap : ℕ) where
       let f : HandshakeFirst (d .accepted) = rw e (handshake-first h ms o) in
       let w = given-as-written network cap ws out d calls f r g in
       (w .0 ∙ ap (map writeValue) e ∙ ap (λ (l : List Value). writeValue h ∷ l) (message-values ms), w .1)
+
+  -- ---- a line that grows
+
+  -- what is given of the items that end by k is the same over the first k bytes
+  same-by : (k : ℕ) (u : List ℕ) (is : List (Item Content)) → map (itemGiven network (take k u)) (endBy k is) ≡ map (itemGiven network u) (endBy k is)
+  unfolding endBy
+  same-by k u [] = refl
+  same-by k u (i ∷ is) =
+      ⊎-elim
+      (λ l. rw (endBy-no k i is l) (same-by k u is))
+      (λ l. rw (endBy-yes k i is l) (ap (λ (j : Item StepRead). j ∷ map (itemGiven network (take k u)) (endBy k is)) (given-cut network k u i l)
+      ∙ ap (λ (js : List (Item StepRead)). itemGiven network u i ∷ js) (same-by k u is)))
+      (lt-or-ge k (i .end))
+
+  same-items : (k : ℕ) (s u : List ℕ) → k ≤ length u → take k u ≡ s
+      → map (itemGiven network s) (sessionReading network cap s .items) ≡ map (itemGiven network u) (sessionReading network cap s .items)
+  same-items k s u h e = rw (← e, cut-anywhere network cap u k h .items) (same-by k u (sessionReading network cap u .items))
+
+  same-after : (s t : List ℕ) → map (itemGiven network s) (sessionReading network cap s .items) ≡ map (itemGiven network (s ++ t)) (sessionReading network cap s .items)
+  same-after s t = same-items (length s) s (s ++ t) (omega (arith, length-append s t)) (take-append-seam s t)
+
+  goes : (s t : List ℕ) (at : ℕ) (r q : Reading StepRead) → GoesOn network cap s t at → GivenFrom network cap s 0 r → GivenFrom network cap (s ++ t) at q
+      → GivenFrom network cap (s ++ t) 0 (record { items = r .items ++ q .items; ending = q .ending })
+  unfolding givenReading
+  goes s t at r q o g f =
+      let g′ : Item Content → Item StepRead = itemGiven network (s ++ t) in
+      let e : r ≡ givenReading network cap s = given-are-reading network cap s r .0 g in
+      let d : q ≡ seen g′ (o .rest) = answers-once f (steps-given network cap (s ++ t) (o .steps (o .rest) .1 refl)) in
+      given-are-reading network cap (s ++ t) _ .1 (rw (e, d, o .whole)
+      (ap (λ (is : List (Item StepRead)). record { items = is; ending = o .rest .ending })
+      (ap (λ (is : List (Item StepRead)). is ++ map g′ (o .rest .items)) (same-after s t)
+      ∙ sym (map-append g′ (sessionReading network cap s .items) (o .rest .items)))))
+
+  ending-of : (s : List ℕ) (r : Reading StepRead) → GivenFrom network cap s 0 r → sessionReading network cap s .ending ≡ r .ending
+  unfolding givenReading
+  ending-of s r g = rw (given-are-reading network cap s r .0 g) refl
+
+  pub grows-from-stop : GrowsFromStop network cap
+  grows-from-stop s t r q layer n at g e f = goes s t at r q (line-grows network cap s t .stops layer n at (ending-of s r g ∙ e)) g f
+
+  pub grows-from-end : GrowsFromEnd network cap
+  grows-from-end s t r q g e f = goes s t (length s) r q (line-grows network cap s t .ended (ending-of s r g ∙ e)) g f
+
+  pub stop-stays : StopStays network cap
+  unfolding givenReading
+  stop-stays s t r layer n at g e not =
+      let w = line-grows network cap s t .stays layer n at (ending-of s r g ∙ e) (λ c. not (is-cut layer n c)) in
+      given-are-reading network cap (s ++ t) r .1 (given-are-reading network cap s r .0 g
+      ∙ rw w (ap (λ (is : List (Item StepRead)). record { items = is; ending = sessionReading network cap s .ending }) (same-after s t)))
