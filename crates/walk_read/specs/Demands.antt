@@ -5,18 +5,23 @@ use mathlib.Core.List.{List, [], _∷_, _++_, map}
 use mathlib.Core.Logic.{_↔_}
 use mathlib.Core.Path.{_≡_}
 use lib.ListN.{length, take}
+use Rattle.wire.specs.Reader.{got, listOf}
 use Rattle.types.specs.declared.Network.{Network}
+use Rattle.handshake.specs.Entry.{Entry, entry}
 use Rattle.handshake_read.specs.Parts.{featureAt}
 use Rattle.handshake_read.specs.Values.{entryPlace}
 use Rattle.messages.specs.Writes.{MessageWrite, valueOf}
 use Rattle.inventory_read.specs.Parts.{idAt, payloadAt}
 use Rattle.messages_read.specs.Parts.{entryAt}
+use Rattle.messages_read.specs.declared.Peers.{Peers}
+use Rattle.messages_read.specs.declared.Message.the-variants as Messages
+use Rattle.walk.specs.Session.{Content, sessionReading}
 use Rattle.walk.specs.Walk.{Layer, Item, clean, stopped, Reading}
 use Rattle.walk.specs.WrittenSession.{Write, writeMessage, messageOf, writeValue, Done}
 use Rattle.walk.specs.Calls.{Calls}
 use Rattle.walk.specs.Demands.{Exactly, AnEnd, IsCut, OfHandshake}
 use Rattle.walk_read.specs.Given.{given, GivenFrom, partIn}
-use Rattle.walk_read.specs.Values.{givenValues}
+use Rattle.walk_read.specs.Values.{givenValues, verdictGiven}
 use Rattle.walk_read.specs.declared.HandshakeItem.{HandshakeItem}
 use Rattle.walk_read.specs.declared.MessageItem.{MessageItem}
 use Rattle.walk_read.specs.declared.StepRead.{StepRead}
@@ -64,6 +69,22 @@ module _ (network : Network) (cap : ℕ) where
       × (entryAt cap index (partIn (take k s) (i .body)) ≡ entryAt cap index (partIn s (i .body))))
       × ((i : HandshakeItem) → given network cap s at ≡ StepReads.Handshake i → i .end .0 ≤ k →
       featureAt index (take k s) (entryPlace (i .handshake .peer)) ≡ featureAt index s (entryPlace (i .handshake .peer)))
+
+  -- ---- what an answer says
+
+  -- the answer that has as many before it as an item of the reading has its verdict
+  abbrev pub VerdictInOrder : Type 0
+  VerdictInOrder =
+      (s : List ℕ) (r : Reading StepRead) → GivenFrom network cap s 0 r
+      → (before after : List (Item StepRead)) (i : Item StepRead) → r .items ≡ before ++ (i ∷ after)
+      → (before′ after′ : List (Item Content)) (j : Item Content) → sessionReading network cap s .items ≡ before′ ++ (j ∷ after′)
+      → length before ≡ length before′ → verdictGiven (i .holds) ≡ j .holds .verdict
+
+  -- from the place that Peers are given at, as many entries are read as are counted
+  abbrev pub PeersFromPlace : Type 0
+  PeersFromPlace =
+      (s : List ℕ) (at : ℕ) (i : MessageItem) (p : Peers) → given network cap s at ≡ StepReads.Message i → i .message ≡ Messages.Peers p
+      → (l : List Entry) × (end : ℕ) × (length l ≡ p .count) × (listOf (p .count) (λ before. entry) (partIn s (i .body)) (p .start .0) ≡ got l end)
 
   -- ---- written sessions
 

@@ -8,6 +8,12 @@ use lib.ListN.{length, length-append, take}
 use lib.Seq.{take-append-seam}
 use Rattle.wire.specs.Numbers.{lt-or-ge}
 use Rattle.types.specs.declared.Network.{Network}
+use Rattle.handshake.specs.Entry.{Entry, entry}
+use Rattle.messages.specs.Message.{Message}
+use Rattle.messages_read.specs.Values.{ReadFrom, ListGiven, noPeers, peers, request, response, inv, syncInfo, unknown}
+use Rattle.messages_read.specs.declared.Peers.{Peers}
+use Rattle.messages_read.specs.declared.Message as Given
+use Rattle.messages_read.specs.declared.Message.the-variants as Messages
 use Rattle.walk.specs.CallsLaws.{answers-once}
 use Rattle.walk.specs.CutRule.{endBy, lastEnd, CutRule}
 use Rattle.walk.specs.CutRuleLaws.{endBy-yes, endBy-no}
@@ -17,12 +23,41 @@ use Rattle.walk.specs.Theorems.{GoesOn}
 use Rattle.walk.specs.TheoremsProved.{cut-anywhere, line-grows}
 use Rattle.walk.specs.Walk.{Item, Reading}
 use Rattle.walk.specs.WrittenSession.{Value, writeValue, sessionBytes, HandshakeFirst}
-use Rattle.walk_read.specs.Demands.{Cut, CutItems, CutCleanly, CutStops, CutOwnStop, CutByIndex, WritesRead, GrowsFromStop, GrowsFromEnd, StopStays}
+use Rattle.walk_read.specs.Demands.{Cut, CutItems, CutCleanly, CutStops, CutOwnStop, CutByIndex, VerdictInOrder, PeersFromPlace, WritesRead, GrowsFromStop, GrowsFromEnd, StopStays}
 use Rattle.walk_read.specs.Given.{GivenFrom, itemGiven, givenReading}
 use Rattle.walk_read.specs.GivenLaws.{given-cut, seen, steps-given}
 use Rattle.walk_read.specs.GivenTheoremsProved.{given-are-reading, given-by-cut, reached-by-index}
-use Rattle.walk_read.specs.ValuesTheoremsProved.{given-as-written}
+use Rattle.walk_read.specs.Values.{verdictGiven}
+use Rattle.walk_read.specs.ValuesTheoremsProved.{given-verdicts, given-lists, given-as-written}
 use Rattle.walk_read.specs.declared.StepRead.{StepRead}
+
+-- ---- lists that are the same seen
+
+rest-of : {A : Type 0} → List A → List A
+rest-of [] = []
+rest-of (a ∷ l) = l
+
+in-order : {A B C : Type 0} (f : A → C) (g : B → C) (before after : List A) (before′ after′ : List B) (a : A) (b : B)
+    → map f (before ++ (a ∷ after)) ≡ map g (before′ ++ (b ∷ after′)) → length before ≡ length before′ → f a ≡ g b
+unfolding rest-of
+in-order f g [] after [] after′ a b e h = cc
+in-order f g [] after (y ∷ before′) after′ a b e h = absurd (omega (arith, h))
+in-order f g (x ∷ before) after [] after′ a b e h = absurd (omega (arith, h))
+in-order f g (x ∷ before) after (y ∷ before′) after′ a b e h = in-order f g before after before′ after′ a b (ap rest-of e) (omega (arith, h))
+
+-- ---- the list of Peers
+
+peers-of : {body : List ℕ} {end : ℕ} {m : Message} {given : Given.Message} → ListGiven body end m given → (p : Peers) → given ≡ Messages.Peers p
+    → (l : List Entry) × ReadFrom (λ before. entry) body (p .count) (p .start .0) l end
+peers-of (peers {l = l} {p = p′} x) p q = let e : p′ ≡ p = cc in (l, rw (← e) x)
+peers-of noPeers p q = let z : _≡_ {A = ℕ} 0 1 = cc in absurd (omega arith)
+peers-of (request x) p q = let z : _≡_ {A = ℕ} 0 1 = cc in absurd (omega arith)
+peers-of (response x) p q = let z : _≡_ {A = ℕ} 0 1 = cc in absurd (omega arith)
+peers-of (inv x) p q = let z : _≡_ {A = ℕ} 0 1 = cc in absurd (omega arith)
+peers-of syncInfo p q = let z : _≡_ {A = ℕ} 0 1 = cc in absurd (omega arith)
+peers-of unknown p q = let z : _≡_ {A = ℕ} 0 1 = cc in absurd (omega arith)
+
+-- ---- the demands
 
 module _ (network : Network) (cap : ℕ) where
   rule : (s : List ℕ) (k : ℕ) (full part : Reading StepRead) → Cut network cap s k full part → CutRule k full part
@@ -57,6 +92,17 @@ module _ (network : Network) (cap : ℕ) where
         λ i g l. let b = r .0 i g l in (b .idByIndex index, b .payloadByIndex index, b .entryByIndex index),
         λ i g l. r .1 i g l .featureByIndex index,
       )
+
+  pub verdict-in-order : VerdictInOrder network cap
+  verdict-in-order s r g before after i e before′ after′ j e′ h =
+      in-order (λ i. verdictGiven (i .holds)) (λ i. i .holds .verdict) before after before′ after′ i j
+      (sym (ap (map (λ i. verdictGiven (i .holds))) e) ∙ given-verdicts network cap s r g ∙ ap (map (λ i. i .holds .verdict)) e′) h
+
+  pub peers-from-place : PeersFromPlace network cap
+  peers-from-place s at i p q e =
+      let g = given-lists network cap s at i q in
+      let x = peers-of (g .3) p e in
+      (x .0, g .1, sym (x .1 .0), x .1 .1)
 
   pub writes-read : WritesRead network cap
   unfolding sessionBytes
