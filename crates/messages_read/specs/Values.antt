@@ -2,14 +2,21 @@
 -- for each index below the given count.
 use Prim.Native.Nat.{ℕ}
 use mathlib.Core.List.{List}
-use Rattle.wire.specs.Reader.{mapAnswer}
+use mathlib.Core.Path.{_≡_}
+use lib.ListN.{length}
+use Rattle.wire.specs.Reader.{got, Reader, Segment, part, listOf, mapAnswer}
 use Rattle.handshake.specs.ByIndex.{byIndex}
+use Rattle.handshake.specs.Entry.{Entry, entry}
 use Rattle.handshake.specs.Value.{EntryValue}
 use Rattle.handshake_read.specs.Answers.{peerSpecOf}
 use Rattle.handshake_read.specs.Values.{peerGiven}
+use Rattle.messages.specs.Message as Bodies
+use Rattle.messages.specs.Message.{payload}
 use Rattle.messages.specs.Value.{MessageValue, getPeersValue, peersValue, modifierRequestValue, modifierResponseValue, invValue, syncInfoValue, unknownValue}
 use Rattle.inventory_read.specs.Values.{idsGiven, payloadsGiven}
+use Rattle.inventory_read.specs.declared.Inventory.{Inventory}
 use Rattle.messages_read.specs.Parts.{entryAt}
+use Rattle.messages_read.specs.declared.Peers.{Peers}
 use Rattle.messages_read.specs.declared.Message.{Message}
 use Rattle.messages_read.specs.declared.Message.the-variants as Messages
 
@@ -25,3 +32,23 @@ messageGiven cap code body (Messages.ModifierResponse i) = modifierResponseValue
 messageGiven cap code body (Messages.Inv i) = invValue (i .kind) (idsGiven body (i .count))
 messageGiven cap code body Messages.SyncInfo = syncInfoValue body
 messageGiven cap code body Messages.Unknown = unknownValue code body
+
+-- ---- the list of a message, from the place that is given as the first one's
+
+-- n is how many l has, and as many items read from the place `at` on are l
+abbrev pub ReadFrom : {A : Type 0} → (List A → Reader A) → List ℕ → ℕ → ℕ → List A → ℕ → Type 0
+ReadFrom p body n at l end = (n ≡ length l) × (listOf n p body at ≡ got l end)
+
+-- what is given of a message that was read to a place of the body: of a list its count and its place
+pub data ListGiven (body : List ℕ) (end : ℕ) : Bodies.Message → Message → Type 0 where
+  noPeers : ListGiven body end Bodies.getPeers Messages.GetPeers
+  peers : {l : List Entry} {p : Peers} → ReadFrom (λ before. entry) body (p .count) (p .start .0) l end
+      → ListGiven body end (Bodies.peers l) (Messages.Peers p)
+  request : {type : ℕ} {l : List Segment} {i : Inventory} → ReadFrom (λ before. part 32) body (i .count) (i .start .0) l end
+      → ListGiven body end (Bodies.modifierRequest type l) (Messages.ModifierRequest i)
+  response : {type : ℕ} {l : List Bodies.Payload} {i : Inventory} → ReadFrom (payload (length body)) body (i .count) (i .start .0) l end
+      → ListGiven body end (Bodies.modifierResponse type l) (Messages.ModifierResponse i)
+  inv : {type : ℕ} {l : List Segment} {i : Inventory} → ReadFrom (λ before. part 32) body (i .count) (i .start .0) l end
+      → ListGiven body end (Bodies.inv type l) (Messages.Inv i)
+  syncInfo : {b : List ℕ} → ListGiven body end (Bodies.syncInfo b) Messages.SyncInfo
+  unknown : {b : List ℕ} → ListGiven body end (Bodies.unknown b) Messages.Unknown

@@ -4,7 +4,7 @@ use mathlib.Core.List.{List, map}
 use mathlib.Core.Path.{_≡_, refl, sym, ap, _∙_}
 use lib.ListN.{length}
 use Rattle.wire.specs.ListOfLaws.{listed}
-use Rattle.wire.specs.Reader.{got, Segment, listOf, mapAnswer}
+use Rattle.wire.specs.Reader.{got, Segment, part, listOf, mapAnswer}
 use Rattle.wire.specs.ReaderLaws.{map-got}
 use Rattle.types.specs.declared.Network.{Network}
 use Rattle.handshake.specs.ByIndexLaws.{by-index, made-of}
@@ -14,16 +14,16 @@ use Rattle.handshake_read.specs.Answers.{peerSpecOf}
 use Rattle.handshake_read.specs.Values.{peerGiven}
 use Rattle.handshake_read.specs.ValuesLaws.{peer-given}
 use Rattle.messages.specs.Message as Bodies
-use Rattle.messages.specs.Message.{Message, message}
+use Rattle.messages.specs.Message.{Message, payload, message}
 use Rattle.messages.specs.PlacesLaws.{ReadBy, byNone, byPeers, byRequest, byResponse, byInv, bySyncInfo, byUnknown, read-by}
 use Rattle.messages.specs.Value.{peersValue, modifierRequestValue, modifierResponseValue, invValue, messageValue}
 use Rattle.inventory_read.specs.Parts.{Items}
 use Rattle.inventory_read.specs.PartsLaws.{ids-items, payloads-items}
-use Rattle.inventory_read.specs.ValuesLaws.{ids-given, payloads-given}
+use Rattle.inventory_read.specs.ValuesLaws.{ids-given, payloads-given, items-from}
 use Rattle.messages_read.specs.Answers.{peersOf, messageOf}
 use Rattle.messages_read.specs.Parts.{entries, entriesStart, entryAt}
 use Rattle.messages_read.specs.PartsLaws.{peers-entries, entries-read, entry-at}
-use Rattle.messages_read.specs.Values.{peersGiven, messageGiven}
+use Rattle.messages_read.specs.Values.{peersGiven, messageGiven, ListGiven, noPeers, peers, request, response, inv, syncInfo, unknown}
 
 module _ (s : List ℕ) where
   pub peers-given : (cap : ℕ) {l : List Entry} {e : ℕ} → entries cap s 0 ≡ got l e → peersGiven cap s (length l) ≡ map entryValue l
@@ -60,3 +60,25 @@ pub entries-from : (network : Network) (cap : ℕ) (s : List ℕ) {l : List Entr
 entries-from network cap s q =
     let r = entries-read cap s q in
     rw (listed (λ before. entry) s (r .number) (entriesStart s) (r .taken) .0) (r .taken)
+
+-- so is what is given of a message that was read
+pub list-given : (network : Network) (cap code : ℕ) (s : List ℕ) {m : Message} {e : ℕ} → message cap code s 0 ≡ got m e
+    → ListGiven s e m (messageOf network s m)
+list-given network cap code s q = go (read-by cap code s 0 q)
+  where
+    go : {m : Message} {e : ℕ} → ReadBy cap s 0 m e → ListGiven s e m (messageOf network s m)
+    go byNone = noPeers
+    go (byPeers q) =
+        let r = map-got Bodies.peers (sym (peers-entries cap s 0) ∙ q) in
+        rw (← r .2) (peers (refl, entries-from network cap s (r .1)))
+    go (byRequest q) =
+        let r = map-got (λ (i : Items Segment). Bodies.modifierRequest (i .type) (i .list)) (sym (ids-items Bodies.modifierRequest s 0) ∙ q) in
+        rw (← r .2) (request (refl, items-from (λ before. part 32) s (r .1)))
+    go (byResponse q) =
+        let r = map-got (λ (i : Items Bodies.Payload). Bodies.modifierResponse (i .type) (i .list)) (sym (payloads-items (length s) s 0) ∙ q) in
+        rw (← r .2) (response (refl, items-from (payload (length s)) s (r .1)))
+    go (byInv q) =
+        let r = map-got (λ (i : Items Segment). Bodies.inv (i .type) (i .list)) (sym (ids-items Bodies.inv s 0) ∙ q) in
+        rw (← r .2) (inv (refl, items-from (λ before. part 32) s (r .1)))
+    go bySyncInfo = syncInfo
+    go byUnknown = unknown

@@ -26,8 +26,8 @@ pub data Exactly {A : Type 0} (P : A → Type 0) : List A → List A → Type 0 
   without : {a : A} {part full : List A} → ¬ (P a) → Exactly P part full → Exactly P part (a ∷ full)
 
 -- k is the end of one of the items
-abbrev pub AnEnd : ℕ → List (Item Content) → Type 0
-AnEnd k is = (before : List (Item Content)) × (i : Item Content) × (after : List (Item Content)) × (is ≡ before ++ (i ∷ after)) × (i .end ≡ k)
+abbrev pub AnEnd : {F : Type 0} → ℕ → List (Item F) → Type 0
+AnEnd {F} k is = (before : List (Item F)) × (i : Item F) × (after : List (Item F)) × (is ≡ before ++ (i ∷ after)) × (i .end ≡ k)
 
 -- "A cut is 1 in the handshake, 5 or 8 in the frame; 1 in a body is no cut."
 abbrev pub IsCut : Layer → ℕ → Type 0

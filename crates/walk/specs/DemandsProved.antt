@@ -41,41 +41,42 @@ use Rattle.walk.specs.TheoremsProved.{cut-anywhere, places-hold, line-gr
 
 -- ---- the cut rule's words
 
-exactly-by : (k : ℕ) (is : List (Item Content)) → Exactly (λ i. i .end ≤ k) (endBy k is) is
-unfolding endBy
-exactly-by k [] = none
-exactly-by k (i ∷ is) =
-    ⊎-elim (λ h. let past : ¬ (i .end ≤ k) = λ g. omega arith in rw (lt-leb (i .end) k h) (without past (exactly-by k is)))
-    (λ h. rw (le-leb (i .end) k h) (with h (exactly-by k is)))
-    (lt-or-ge k (i .end))
+module _ {F : Type 0} where
+  pub exactly-by : (k : ℕ) (is : List (Item F)) → Exactly (λ i. i .end ≤ k) (endBy k is) is
+  unfolding endBy
+  exactly-by k [] = none
+  exactly-by k (i ∷ is) =
+      ⊎-elim (λ h. let past : ¬ (i .end ≤ k) = λ g. omega arith in rw (lt-leb (i .end) k h) (without past (exactly-by k is)))
+      (λ h. rw (le-leb (i .end) k h) (with h (exactly-by k is)))
+      (lt-or-ge k (i .end))
 
-an-end : {k : ℕ} {is : List (Item Content)} → EndsAt k is → AnEnd k is
-an-end (here {i = i} {is = is} e) = ([], i, is, refl, e)
-an-end (there {i = j} s) =
-    let r = an-end s in
-    (j ∷ r .0, r .1, r .2, ap (λ (l : List (Item Content)). j ∷ l) (r .3), r .4)
+  pub an-end : {k : ℕ} {is : List (Item F)} → EndsAt k is → AnEnd k is
+  an-end (here {i = i} {is = is} e) = ([], i, is, refl, e)
+  an-end (there {i = j} s) =
+      let r = an-end s in
+      (j ∷ r .0, r .1, r .2, ap (λ (l : List (Item F)). j ∷ l) (r .3), r .4)
 
-ends-at : (k : ℕ) (before : List (Item Content)) (i : Item Content) (after : List (Item Content)) → i .end ≡ k → EndsAt k (before ++ (i ∷ after))
-ends-at k [] i after e = here e
-ends-at k (j ∷ before) i after e = there (ends-at k before i after e)
+  ends-at : (k : ℕ) (before : List (Item F)) (i : Item F) (after : List (Item F)) → i .end ≡ k → EndsAt k (before ++ (i ∷ after))
+  ends-at k [] i after e = here e
+  ends-at k (j ∷ before) i after e = there (ends-at k before i after e)
 
-end-at : (k : ℕ) (is : List (Item Content)) → AnEnd k is → EndsAt k is
-end-at k is (before, i, after, e, f) = rw e (ends-at k before i after f)
+  pub end-at : (k : ℕ) (is : List (Item F)) → AnEnd k is → EndsAt k is
+  end-at k is (before, i, after, e, f) = rw e (ends-at k before i after f)
 
-last-end : (at : ℕ) (before : List (Item Content)) (i : Item Content) → lastEnd at (before ++ (i ∷ [])) ≡ i .end
+  pub last-end : (at : ℕ) (before : List (Item F)) (i : Item F) → lastEnd at (before ++ (i ∷ [])) ≡ i .end
+  unfolding lastEnd
+  last-end at [] i = refl
+  last-end at (j ∷ before) i = last-end (j .end) before i
+
+pub no-items : (F : Type 0) → lastEnd {F = F} 0 [] ≡ 0
 unfolding lastEnd
-last-end at [] i = refl
-last-end at (j ∷ before) i = last-end (j .end) before i
-
-no-items : lastEnd {F = Content} 0 [] ≡ 0
-unfolding lastEnd
-no-items = refl
+no-items F = refl
 
 one-of : (a b : Bool) → T (a || b) → T a ⊎ T b
 one-of true b t = inl tt
 one-of false b t = inr t
 
-is-cut : (layer : Layer) (n : ℕ) → T (isCut layer n) → IsCut layer n
+pub is-cut : (layer : Layer) (n : ℕ) → T (isCut layer n) → IsCut layer n
 unfolding isCut
 is-cut Walk.handshake n t = inl (refl, eqb→eq n 1 t)
 is-cut Walk.frame n t = inr (refl, ⊎-elim (λ a. inl (eqb→eq n 5 a)) (λ b. inr (eqb→eq n 8 b)) (one-of (eqb n 5) (eqb n 8) t))
@@ -94,12 +95,12 @@ of-handshake (writeHandshake timestamp l k) h = refl
 of-handshake (writeBuilt c) h = refl
 of-handshake (writeMessage m) h = absurd (h m refl)
 
-message-values : (ms : List MessageWrite) → map writeValue (map writeMessage ms) ≡ map (λ m. messageOf (valueOf m)) ms
+pub message-values : (ms : List MessageWrite) → map writeValue (map writeMessage ms) ≡ map (λ m. messageOf (valueOf m)) ms
 unfolding writeValue
 message-values [] = refl
 message-values (m ∷ ms) = ap (λ (l : List Value). messageOf (valueOf m) ∷ l) (message-values ms)
 
-handshake-first : (h : Write) (ms : List MessageWrite) → OfHandshake h → HandshakeFirst (h ∷ map writeMessage ms)
+pub handshake-first : (h : Write) (ms : List MessageWrite) → OfHandshake h → HandshakeFirst (h ∷ map writeMessage ms)
 handshake-first h ms o = first (of-handshake h o) (only-messages ms)
 
 -- the messages among values
@@ -218,7 +219,7 @@ module _ (network : Network) (cap : ℕ) where
         _,
         r .2,
         λ before last e. ap (lastEnd 0) (sym (c .items) ∙ e) ∙ last-end 0 before last,
-        λ e. ap (lastEnd 0) (sym (c .items) ∙ e) ∙ no-items,
+        λ e. ap (lastEnd 0) (sym (c .items) ∙ e) ∙ no-items Content,
       )
 
   pub cut-own-stop : CutOwnStop network cap

@@ -32,6 +32,8 @@ use Rattle.messages.specs.Message.{Message, message, payloadAfter}
 use Rattle.inventory_read.specs.Parts.{idAt, payloadAt}
 use Rattle.messages_read.specs.Parts.{entryAt}
 use Rattle.messages_read.specs.Answers.{messageOf}
+use Rattle.messages_read.specs.Values.{ListGiven}
+use Rattle.messages_read.specs.ValuesLaws.{list-given}
 use Rattle.walk.specs.Walk as Walk
 use Rattle.walk.specs.Walk.{Opened, opened, item, cleanEnd, stop, outside}
 use Rattle.walk.specs.WalkLaws.{openAt, step-opened}
@@ -76,16 +78,17 @@ module _ (network : Network) where
   handshake-fields (refused n) c e q = let z : _≡_ {A = ℕ} 0 1 = cc in absurd (omega arith)
 
   message-fields : (f : BodyFrame) (d : ℕ) (m : Answer Message) (c : Content) (e : ℕ) → messageItem network f d m ≡ opened c e
-      → (d ≡ e) × ((m : Message) × (c .fields ≡ messageFields (f .code) (f .body .start) m))
+      → (d ≡ e) × ((b : Message) × (c .fields ≡ messageFields (f .code) (f .body .start) b) × ((n : ℕ) × (m ≡ got b n)))
   unfolding messageItem
   message-fields f d (got m n) c e q =
       let y : d ≡ e = cc in
       let z : c ≡ record { fields = messageFields (f .code) (f .body .start) m; verdict = messageVerdict network m } = cc in
-      (y, (m, ap (λ (c : Content). c .fields) z))
+      (y, (m, ap (λ (c : Content). c .fields) z, (n, refl)))
   message-fields f d (refused n) c e q = let z : _≡_ {A = ℕ} 0 1 = cc in absurd (omega arith)
 
   frame-fields : (cap : ℕ) (r : Answer BodyFrame) (c : Content) (e : ℕ) → frameItem network cap r ≡ opened c e
-      → (f : BodyFrame) × (r ≡ got f e) × ((m : Message) × (c .fields ≡ messageFields (f .code) (f .body .start) m))
+      → (f : BodyFrame) × (r ≡ got f e)
+      × ((m : Message) × (c .fields ≡ messageFields (f .code) (f .body .start) m) × ((n : ℕ) × (message cap (f .code) (f .body .bytes) 0 ≡ got m n)))
   unfolding frameItem
   frame-fields cap (got f d) c e q =
       let r = message-fields f d (message cap (f .code) (f .body .bytes) 0) c e q in
@@ -137,6 +140,11 @@ module _ (network : Network) (cap : ℕ) (s : List ℕ) (at : ℕ) where
     read : frame network s at ≡ got of (i .end .0)
     start : i .body .start .0 ≡ of .body .start
     len : i .body .len ≡ i .end .0 - of .body .start
+    code : i .code ≡ of .code
+    holds : Message
+    next : ℕ
+    opens : message cap (of .code) (of .body .bytes) 0 ≡ got holds next
+    same : i .message ≡ messageOf network (bodyIn s (of .body .start) (i .end .0)) holds
 
   -- of a handshake, from what was read at place 0
   record HandshakeGiven (i : HandshakeItem) : Type 0 where
@@ -155,12 +163,13 @@ module _ (network : Network) (cap : ℕ) (s : List ℕ) where
   message-opened (suc at) i g =
       let h = frame-fields network cap (frame network s (suc at)) (g .content) (g .end) (g .opens) in
       let q = rw (h .2 .1) at (g .gives) in
-      go (h .0) (h .1) (h .2 .0) q
+      go (h .0) (h .1) (h .2 .0) q (h .2 .2 .0) (h .2 .2 .1)
     where
       go : (f : BodyFrame) → frame network s (suc at) ≡ got f (g .end) → (m : Message)
           → itemOf network s (g .start) (g .end) (messageFields (f .code) (f .body .start) m) (g .content .verdict) ≡ StepReads.Message i
+          → (n : ℕ) → message cap (f .code) (f .body .bytes) 0 ≡ got m n
           → FrameGiven network cap s (suc at) i
-      go f r m q =
+      go f r m q n b =
           let e : i ≡ record {
             start = streamPlace (g .start);
             end = streamPlace (g .end);
@@ -168,7 +177,17 @@ module _ (network : Network) (cap : ℕ) (s : List ℕ) where
             body = record { start = streamPlace (f .body .start); len = g .end - f .body .start };
             message = messageOf network (bodyIn s (f .body .start) (g .end)) m;
           } = cc in
-          record { of = f; read = rw e r; start = ap (λ (i : MessageItem). i .body .start .0) e; len = rw e refl }
+          record {
+            of = f;
+            read = rw e r;
+            start = ap (λ (i : MessageItem). i .body .start .0) e;
+            len = rw e refl;
+            code = ap (λ (i : MessageItem). i .code) e;
+            holds = m;
+            next = n;
+            opens = b;
+            same = rw e refl;
+          }
 
   handshake-opened : (at : ℕ) (i : HandshakeItem) → ItemGiven network cap s at (StepReads.Handshake i) → HandshakeGiven network cap s at i
   unfolding openAt handshakeAt messageAt itemOf
@@ -203,6 +222,22 @@ module _ (network : Network) (cap : ℕ) (s : List ℕ) where
       let n : length (take k s) ≡ k = length-take-le k s h in
       let e : i .body .start .0 + i .body .len ≤ k = omega (arith, f .start, f .len, p .ends) in
       same-body cap (take k s) s (i .body) (omega arith) (take-drop-take (i .body .len) (i .body .start .0) k s e)
+
+  -- the list of a message
+  abbrev ListReached : MessageItem → Type 0
+  ListReached i =
+      (m : Message) × (end : ℕ) × (message cap (i .code) (partIn s (i .body)) 0 ≡ got m end) × ListGiven (partIn s (i .body)) end m (i .message)
+
+  frame-list : (at : ℕ) (i : MessageItem) → FrameGiven network cap s at i → ListReached i
+  frame-list at i f =
+      let p = frame-places network s at (f .read) in
+      let n : i .end .0 - f .of .body .start ≡ length (f .of .body .bytes) = omega (arith, p .ends) in
+      let b : bodyIn s (f .of .body .start) (i .end .0) ≡ f .of .body .bytes = rw (n, ← p .stands) refl in
+      let w : partIn s (i .body) ≡ f .of .body .bytes = rw (f .start, f .len) b in
+      (f .holds, f .next, rw (f .code, w) (f .opens), rw (w, f .same, b) (list-given network cap (f .of .code) (f .of .body .bytes) (f .opens)))
+
+  pub reached-list : (at : ℕ) (i : MessageItem) → given network cap s at ≡ StepReads.Message i → ListReached i
+  reached-list at i q = frame-list at i (message-opened at i (item-given network cap s at (StepReads.Message i) q tt))
 
 -- ---- an entry and its features
 

@@ -6,13 +6,21 @@ use Rattle.walk.specs.TheoremsProved.{reads-as-written}
 use Rattle.walk.specs.WrittenSession.{sessionBytes}
 use Rattle.walk_read.specs.Given.{givenReading}
 use Rattle.walk_read.specs.GivenTheoremsProved.{given-are-reading}
-use Rattle.walk_read.specs.ValuesLaws.{items-given}
-use Rattle.walk_read.specs.ValuesTheorems.{GivenSaysReading, GivenAsWritten}
+use Rattle.walk_read.specs.ReachedLaws.{reached-list}
+use Rattle.walk_read.specs.ValuesLaws.{items-given, verdicts-given}
+use Rattle.walk_read.specs.ValuesTheorems.{GivenSaysReading, GivenVerdicts, GivenLists, GivenAsWritten}
 
 module _ (network : Network) (cap : ℕ) where
   pub given-says-reading : GivenSaysReading network cap
   unfolding givenReading
   given-says-reading s r g = rw (given-are-reading network cap s r .0 g) (items-given network cap s)
+
+  pub given-verdicts : GivenVerdicts network cap
+  unfolding givenReading
+  given-verdicts s r g = rw (given-are-reading network cap s r .0 g) (verdicts-given network cap s)
+
+  pub given-lists : GivenLists network cap
+  given-lists s at i q = reached-list network cap s at i q
 
   pub given-as-written : GivenAsWritten network cap
   unfolding givenReading
