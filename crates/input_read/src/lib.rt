@@ -11,7 +11,7 @@ pub enum Input {
 }
 
 // After a read: so many bytes are stored and the reading goes on, or it is over.
-pub enum Turn {
+enum Turn {
     On(usize),
     Over(Input),
 }
