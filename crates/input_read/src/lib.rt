@@ -1,12 +1,19 @@
 // All of an input, read into a lent buffer: a read that fails is told from the end of the input.
-ghost use Prim.Native.Nat.{_≤_};
+ghost use mathlib.Core.Path.{_≡_};
+ghost use Prim.Native.Nat.{_+_, _<_, _^_, min};
 ghost use lib.ListN.{length};
-ghost use Rattle.input_read.specs.Input.{Stored, Fits};
+ghost use Rattle.input_read.specs.Input.{Stored, Within, turnAfter};
 
 // How many bytes were stored, or that a read failed.
 pub enum Input {
     Bytes(usize),
     Failed,
+}
+
+// After a read: so many bytes are stored and the reading goes on, or it is over.
+enum Turn {
+    On(usize),
+    Over(Input),
 }
 
 // Stores what is read from the start of the buffer on, until that is full or the input ends. Where a read fails, what came before it counts for nothing.
@@ -15,29 +22,44 @@ pub fn read_input(fd: i32, buf: &mut [u8]) -> Input
 {
     let mut done = 0;
     while done < buf.len() {
-        let part = read_at(fd, buf, done);
-        match part {
-            Input::Bytes(n) => {
-                if n == 0 {
-                    return Input::Bytes(done);
-                }
-                done += n;
+        let turn = read_at(fd, buf, done);
+        match turn {
+            Turn::On(n) => {
+                done = n;
             }
-            Input::Failed => return Input::Failed,
+            Turn::Over(input) => return input,
         }
     }
     Input::Bytes(done)
 }
 
-// One read, stored from a place of the buffer on. At the end of the input it has no bytes.
-fn read_at(fd: i32, buf: &mut [u8], at: usize) -> Input
-    requires { ⌜ at ≤ length (now buf) ⌝ }
-    ensures { λ r. ⌜ Fits r at (length (now (buf .entry))) ⌝ }
+// One read of at most 4,096 bytes, stored from a place of the buffer on.
+fn read_at(fd: i32, buf: &mut [u8], done: usize) -> Turn
+    requires { ⌜ done < length (now buf) ⌝ }
+    ensures { λ r. ⌜ Within r done (length (now (buf .entry))) ⌝ }
 {
-    let rest = &mut buf[at..];
-    let got = libc::read(fd, rest);
+    let asked = least(buf.len() - done, 4096);
+    let got = libc::read(fd, &mut buf[done..done + asked]);
+    after(got, done, asked)
+}
+
+// What a read's answer means that asked for so many bytes, where some are stored.
+fn after(got: isize, done: usize, asked: usize) -> Turn
+    requires { ⌜ done + asked < 2 ^ 64 ⌝ }
+    ensures { λ r. ⌜ r ≡ turnAfter got done asked ⌝ }
+{
     if got < 0 {
-        return Input::Failed;
+        return Turn::Over(Input::Failed);
     }
-    Input::Bytes(io::count(got, rest))
+    let n = least(got as usize, asked);
+    if n == 0 {
+        return Turn::Over(Input::Bytes(done));
+    }
+    Turn::On(done + n)
+}
+
+fn least(a: usize, b: usize) -> usize
+    ensures { λ r. ⌜ r ≡ min a b ⌝ }
+{
+    if a < b { a } else { b }
 }

@@ -17,9 +17,10 @@ use Rattle.messages.specs.Message.{peers, unknown, message}
 use Rattle.walk.specs.Walk as Walk
 use Rattle.walk.specs.Walk.{clean, stopped, stepTo, onward, step, walkIn, walk, reading}
 use Rattle.walk.specs.Session.{messageFields, peersVerdict, noVerdict, messageVerdict, handshakeItem, messageItem, frameItem, handshakeAt, messageAt, sessionReading}
+use Rattle.input_read.specs.declared.Input.the-variants.{Bytes, Failed}
 use Rattle.report_text.specs.Lines.{ascii, decimalIn, decimal, field, span, versionText, handshakeLine, messageText, messageLine, peersLine, stopLine, endLine}
 use Rattle.report_lines.specs.StepLines.{stopText}
-use Rattle.report.specs.Report.{contentLine, endingLine, reportText, sessionText}
+use Rattle.report.specs.Report.{contentLine, endingLine, reportText, sessionText, inputText}
 
 abbrev session : List ℕ
 session =
@@ -58,3 +59,13 @@ longest s e = rw e
 pub too-long : sessionText (replicate 65537 0) ≡ ascii "long\n"
 unfolding sessionText
 too-long = refl
+
+-- the word, letter by letter, whatever stands in the buffer
+pub not-read : (buf : List ℕ) → inputText Failed buf ≡ 117 ∷ 110 ∷ 114 ∷ 101 ∷ 97 ∷ 100 ∷ 10 ∷ []
+unfolding inputText
+not-read buf = refl
+
+-- of the buffer the bytes that were read
+pub ten-of-twenty : inputText (Bytes 10) session ≡ sessionText (take 10 session)
+unfolding inputText
+ten-of-twenty = refl

@@ -4,7 +4,7 @@ use Prim.Native.Nat.{ℕ, _-_}
 use mathlib.Core.Bool.{Bool, true, false, cond}
 use mathlib.Core.List.{List, [], _∷_, _++_, flatMap}
 use lib.Dec.{leb, ltb}
-use lib.ListN.{length}
+use lib.ListN.{length, take}
 use Rattle.types.specs.declared.Network.{Network}
 use Rattle.types.specs.declared.Network.the-variants.{Mainnet}
 use Rattle.types.specs.declared.StreamPlace.{StreamPlace}
@@ -13,6 +13,8 @@ use Rattle.walk.specs.Session.{Fields, handshakeFields, messageFields, Verdict,
 use Rattle.walk_read.specs.Steps.{streamPlace, layerOf, peerNumber, stepOf}
 use Rattle.walk_read.specs.declared.StepRead.{StepRead}
 use Rattle.walk_read.specs.declared.StepRead.the-variants as StepReads
+use Rattle.input_read.specs.declared.Input.{Input}
+use Rattle.input_read.specs.declared.Input.the-variants.{Bytes, Failed}
 use Rattle.report_text.specs.Lines.{ascii, handshakeLine, messageLine, peersLine, stopLine, endLine}
 use Rattle.report_lines.specs.StepLines.{stopText, lineOf}
 use Rattle.report.specs.declared.Next.{Next}
@@ -49,6 +51,11 @@ sessionText s = cond (ltb 65536 (length s)) (ascii "long\n") (reportText Mainnet
 -- what it prints where its input could not be read
 abbrev pub unread : List ℕ
 unread = ascii "unread\n"
+
+-- what it prints where so many bytes were read into a buffer, or a read failed
+unfoldable pub inputText : Input → List ℕ → List ℕ
+inputText (Bytes n) buf = sessionText (take n buf)
+inputText Failed buf = unread
 
 -- ---- a line of it
 

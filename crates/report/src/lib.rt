@@ -1,10 +1,10 @@
 // The report of a session (document 01, "At the edges"): the line of a step, as many lines as fit into a lent output, and the whole of it printed.
 ghost use mathlib.Core.Path.{_≡_};
-ghost use Prim.Native.Nat.{_%_, _^_, _≤_};
+ghost use Prim.Native.Nat.{_%_, _^_, _≤_, min};
 ghost use lib.ListN.{length};
 ghost use Rattle.wire.specs.Output.{put};
 ghost use Rattle.io.specs.Counts.{Counts};
-ghost use Rattle.report.specs.Report.{lineAt, nextAt, blockAt, blockNext, reportText, sessionText};
+ghost use Rattle.report.specs.Report.{lineAt, nextAt, blockAt, blockNext, reportText, sessionText, inputText};
 use input_read::Input;
 use libc::STDOUT_FILENO;
 use types::Network;
@@ -24,19 +24,31 @@ const MAX_INPUT: usize = 65536;
 // The Peers cap of the program `session`.
 const CAP: usize = 64;
 
-// All that the program `session` does: it reads its input, of which one byte more than the longest is enough to tell, and prints `unread` where a read
-// failed, otherwise what it prints of the input.
+// All that the program `session` does: it reads its input, of which one byte more than the longest is enough to tell, and prints what is to be printed.
 pub fn print_input(fd: i32) {
     let mut input = [0u8; MAX_INPUT + 1];
     let read = input_read::read_input(fd, &mut input);
+    print_read(read, &input);
+}
+
+// Prints `unread` where a read failed, otherwise what is printed of the bytes that were read, and gives how many bytes that is. Of more bytes than the
+// buffer has it counts the buffer's.
+pub fn print_read(read: Input, buf: &[u8]) -> u64
+    ensures { λ r. ⌜ r ≡ length (inputText read (now (buf .entry))) % 2 ^ 64 ⌝ }
+{
     match read {
-        Input::Bytes(n) => {
-            print_session(&input[..n]);
-        }
+        Input::Bytes(n) => print_session(&buf[..least(n, buf.len())]),
         Input::Failed => {
             io::write_all(STDOUT_FILENO, b"unread\n");
+            7
         }
     }
+}
+
+fn least(a: usize, b: usize) -> usize
+    ensures { λ r. ⌜ r ≡ min a b ⌝ }
+{
+    if a < b { a } else { b }
 }
 
 // Prints `long` where the input is too long, otherwise its report as a session of mainnet with the cap 64, and gives how many bytes that is.
@@ -51,7 +63,7 @@ pub fn print_session(s: &[u8]) -> u64
 }
 
 // Prints the report of a session, block by block, and gives how many bytes it has, modulo 2^64.
-pub fn print_report(s: &[u8], network: Network, cap: usize) -> u64
+fn print_report(s: &[u8], network: Network, cap: usize) -> u64
     ensures { λ r. ⌜ r ≡ length (reportText network cap (now (s .entry))) % 2 ^ 64 ⌝ }
 {
     let mut at = 0;

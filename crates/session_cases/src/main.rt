@@ -1,7 +1,8 @@
 // Reads inputs of the program `session` from standard input, each behind its length (three bytes, little-endian), and prints what it prints of them, one
-// after the other; and last what it prints where its input can't be read.
+// after the other; and last, twice, what it prints where its input can't be read.
 ghost use Prim.Native.Nat.{_≤_, _<_};
 ghost use lib.ListN.{length};
+use input_read::Input;
 use libc::STDIN_FILENO;
 
 // No file has this descriptor, so that a read of it fails.
@@ -11,6 +12,7 @@ fn main() {
     let mut sessions = [0u8; 262144];
     let n = io::read_full(STDIN_FILENO, &mut sessions);
     print_reports(&sessions[..n]);
+    report::print_read(Input::Failed, &sessions);
     report::print_input(NO_FILE);
 }
 
@@ -22,7 +24,7 @@ fn print_reports(s: &[u8]) {
         if end <= at + 2 {
             return;
         }
-        report::print_session(&s[at + 3..end]);
+        report::print_read(Input::Bytes(end - at - 3), &s[at + 3..]);
         at = end;
     }
 }

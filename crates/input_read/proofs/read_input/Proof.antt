@@ -1,13 +1,16 @@
--- `input_read::read_input` is safe and ends: each read stores some bytes, within the buffer.
-use Prim.Native.Nat.{ℕ, _+_, _-_, _≤_}
+-- `input_read::read_input` is safe and ends: each read after which the reading goes on stores some bytes, within the buffer.
+use Prim.Native.Nat.{ℕ, _-_, _<_, _≤_}
 use native.Mathlib.Omega.{arith}
+use mathlib.Core.List.{List}
 use mathlib.Core.Path.{_≡_, refl, sym}
 use lib.ListN.{length}
 use lib.Seq.{length-take-le}
 use borrow.Author.Needs.{needs}
 use Rattle.input_read.specs.declared.Input.{Input}
-use Rattle.input_read.specs.declared.Input.the-variants.{Bytes}
-use Rattle.input_read.specs.Input.{Fits}
+use Rattle.input_read.specs.declared.Input.the-variants.{Bytes, Failed}
+use Rattle.input_read.specs.declared.Turn.{Turn}
+use Rattle.input_read.specs.declared.Turn.the-variants.{On, Over}
+use Rattle.input_read.specs.Input.{Stored, Within}
 use Rattle.input_read.proofs.read_input.Statement.{statement}
 use Rattle.input_read.proofs.read_input.Tie as tie
 
@@ -17,26 +20,30 @@ Inv-loop fd buf₀ done₀ buf done = (length buf ≡ length buf₀) × (done �
 abbrev μ-loop : tie.MeasureT-loop
 μ-loop fd buf₀ done₀ buf done = length buf - done
 
-bytes-fit : (r : Input) (n at long : ℕ) → r ≡ Bytes n → Fits r at long → at + n ≤ long
-bytes-fit r n at long e h = rw e at h
+goes-on : (t : Turn) (n done long : ℕ) → t ≡ On n → Within t done long → (done < n) × (n ≤ long)
+goes-on t n done long e h = rw e at h
+
+stored : (i : Input) (done long : ℕ) (buf : List ℕ) → Within (Over i) done long → length buf ≡ long → Stored i buf
+stored (Bytes n) done long buf h e = (omega arith, sym (length-take-le _ _ (omega arith)))
+stored Failed done long buf h e = tt
+
+over-stored : (t : Turn) (i : Input) (done long : ℕ) (buf : List ℕ) → t ≡ Over i → Within t done long → length buf ≡ long → Stored i buf
+over-stored t i done long buf e h = stored i done long buf (rw e at h)
 
 loop-holds : tie.Need-loop-holds Inv-loop μ-loop
 loop-holds c = (refl, omega arith)
 
-returns : tie.Need-returns Inv-loop μ-loop
-returns c = (search needs, sym (length-take-le _ _ (search needs)))
-
-add-done : tie.Need-add-done Inv-loop μ-loop
-add-done c = omega (arith, bytes-fit _ _ _ _ (c .before .before .part .given .1) (c .before .before .before .before .before .before .read-at .ensures))
-
 loop-less : tie.Need-loop-less Inv-loop μ-loop
-loop-less c = omega (arith, bytes-fit _ _ _ _ (c .before .before .part .given .1) (c .before .before .before .before .before .before .read-at .ensures))
+loop-less c = let m = goes-on _ _ _ _ (c .before .turn .given .1) (c .before .before .before .before .before .read-at .ensures) in omega (arith, m .0, m .1)
 
 loop-again : tie.Need-loop-again Inv-loop μ-loop
-loop-again c = (search needs, omega (arith, bytes-fit _ _ _ _ (c .before .before .part .given .1) (c .before .before .before .before .before .before .read-at .ensures)))
+loop-again c = let m = goes-on _ _ _ _ (c .before .turn .given .1) (c .before .before .before .before .before .read-at .ensures) in (search needs, omega (arith, m .1))
 
-returns-3 : tie.Need-returns-3 Inv-loop μ-loop
-returns-3 c = let i = c .before .loop .inv in (i .1, sym (length-take-le _ _ (i .1)))
+returns : tie.Need-returns Inv-loop μ-loop
+returns c = over-stored _ _ _ _ _ (c .before .turn2 .given .1) (c .before .before .before .before .before .read-at .ensures) (search needs)
+
+returns-2 : tie.Need-returns-2 Inv-loop μ-loop
+returns-2 c = let i = c .before .loop .inv in (i .1, sym (length-take-le _ _ (i .1)))
 
 pub read-input-spec : {M : Type 1} → statement M
 read-input-spec =
@@ -47,13 +54,10 @@ read-input-spec =
     loop-holds
     (λ c κs. search needs)
     (λ c. search needs)
-    (λ c. search needs)
-    returns
-    add-done
     loop-less
     loop-again
     (λ c. search needs)
     (λ c. search needs)
-    (λ c. tt)
+    returns
     (λ c. c .before .loop .inv .0)
-    returns-3)
+    returns-2)
