@@ -12,6 +12,8 @@ abbrev pub Stored : Input → List ℕ → Type 0
 Stored (Inputs.Bytes n) buf = Counts n buf
 Stored Inputs.Failed buf = Unit {0}
 
+-- ---- Only for laws, proofs and private functions: no public contract and no theorem cites what follows.
+
 -- no byte more is the end of the input
 unfoldable pub turnOf : ℕ → ℕ → Turn
 turnOf done zero = Turns.Over (Inputs.Bytes done)

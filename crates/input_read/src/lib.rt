@@ -58,7 +58,8 @@ fn after(got: isize, done: usize, asked: usize) -> Turn
     Turn::On(done + n)
 }
 
-fn least(a: usize, b: usize) -> usize
+// The smaller of two numbers.
+pub fn least(a: usize, b: usize) -> usize
     ensures { λ r. ⌜ r ≡ min a b ⌝ }
 {
     if a < b { a } else { b }

@@ -1,6 +1,6 @@
 // The report of a session (document 01, "At the edges"): the line of a step, as many lines as fit into a lent output, and the whole of it printed.
 ghost use mathlib.Core.Path.{_≡_};
-ghost use Prim.Native.Nat.{_%_, _^_, _≤_, min};
+ghost use Prim.Native.Nat.{_%_, _^_, _≤_};
 ghost use lib.ListN.{length};
 ghost use Rattle.wire.specs.Output.{put};
 ghost use Rattle.io.specs.Counts.{Counts};
@@ -37,18 +37,12 @@ pub fn print_read(read: Input, buf: &[u8]) -> u64
     ensures { λ r. ⌜ r ≡ length (inputText read (now (buf .entry))) % 2 ^ 64 ⌝ }
 {
     match read {
-        Input::Bytes(n) => print_session(&buf[..least(n, buf.len())]),
+        Input::Bytes(n) => print_session(&buf[..input_read::least(n, buf.len())]),
         Input::Failed => {
             io::write_all(STDOUT_FILENO, b"unread\n");
             7
         }
     }
-}
-
-fn least(a: usize, b: usize) -> usize
-    ensures { λ r. ⌜ r ≡ min a b ⌝ }
-{
-    if a < b { a } else { b }
 }
 
 // Prints `long` where the input is too long, otherwise its report as a session of mainnet with the cap 64, and gives how many bytes that is.
