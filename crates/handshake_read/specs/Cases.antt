@@ -8,6 +8,12 @@ use Rattle.vlq.specs.Vlq.{groups, vlq, vlqLength}
 use Rattle.vlq.specs.ShortString.{string, shortString}
 use Rattle.handshake.specs.Entry.{EntryFeature, version, addressIf, feature, entry}
 use Rattle.handshake_read.specs.Parts.{nth, featureAt}
+use Rattle.handshake_read.specs.Answers.{featureAnswer, entryAnswer, sizeAnswer}
+use Rattle.handshake_read.specs.declared.Feature.{Feature}
+use Rattle.handshake_read.specs.declared.PeerSpec.{PeerSpec}
+use Rattle.handshake_read.specs.declared.FeatureRead.the-variants as FeatureReads
+use Rattle.handshake_read.specs.declared.EntryRead.the-variants as EntryReads
+use Rattle.handshake_read.specs.declared.SizeRead.the-variants as SizeReads
 
 pub record Case : Type 0 where
   pub index : ℕ
@@ -40,3 +46,13 @@ cases =
 pub all-cases : map (λ (c : Case). featureAt (c .index) (entryWith (c .features)) 0) cases ≡ map (λ (c : Case). c .answer) cases
 unfolding cases nth featureAt fold listOf groups vlq vlqLength string shortString utf8From utf8 version addressIf feature entry
 all-cases = refl
+
+-- what the code's answers mean
+pub all-answers : (f : Feature) (p : PeerSpec) →
+    (featureAnswer (FeatureReads.Value f (record { at = 5 })) ≡ got f 5)
+    × (featureAnswer (FeatureReads.Refused 3) ≡ refused 3)
+    × (entryAnswer (EntryReads.Value p (record { at = 6 })) ≡ got p 6)
+    × (entryAnswer (EntryReads.Refused 4) ≡ refused 4)
+    × (sizeAnswer (SizeReads.Size 7) ≡ got 7 7)
+    × (sizeAnswer (SizeReads.Refused 2) ≡ refused 2)
+all-answers f p = (refl, refl, refl, refl, refl, refl)

@@ -28,6 +28,10 @@ use Rattle.walk_read.specs.declared.StepRead.{StepRead}
 use Rattle.walk_read.specs.declared.StepRead.the-variants as StepReads
 
 module _ (network : Network) (cap : ℕ) where
+  -- "A buffer handed in as a [..] whole session, of any bytes and length, gets its reading": the steps from place 0 on come to an end
+  abbrev pub Answered : Type 0
+  Answered = (s : List ℕ) → (r : Reading StepRead) × GivenFrom network cap s 0 r
+
   -- ---- "cut a session of any bytes at whichever byte."
 
   -- `full` is the answers over s, and `part` those over its first k bytes

@@ -23,7 +23,7 @@ use Rattle.walk.specs.Theorems.{GoesOn}
 use Rattle.walk.specs.TheoremsProved.{cut-anywhere, line-grows}
 use Rattle.walk.specs.Walk.{Item, Reading}
 use Rattle.walk.specs.WrittenSession.{Value, writeValue, sessionBytes, HandshakeFirst}
-use Rattle.walk_read.specs.Demands.{Cut, CutItems, CutCleanly, CutStops, CutOwnStop, CutByIndex, VerdictInOrder, PeersFromPlace, WritesRead, GrowsFromStop, GrowsFromEnd, StopStays}
+use Rattle.walk_read.specs.Demands.{Answered, Cut, CutItems, CutCleanly, CutStops, CutOwnStop, CutByIndex, VerdictInOrder, PeersFromPlace, WritesRead, GrowsFromStop, GrowsFromEnd, StopStays}
 use Rattle.walk_read.specs.Given.{GivenFrom, itemGiven, givenReading}
 use Rattle.walk_read.specs.GivenLaws.{given-cut, seen, steps-given}
 use Rattle.walk_read.specs.GivenTheoremsProved.{given-are-reading, given-by-cut, reached-by-index}
@@ -60,6 +60,9 @@ peers-of unknown p q = let z : _≡_ {A = ℕ} 0 1 = cc in absurd (omega arith)
 -- ---- the demands
 
 module _ (network : Network) (cap : ℕ) where
+  pub answered : Answered network cap
+  answered s = (givenReading network cap s, given-are-reading network cap s (givenReading network cap s) .1 refl)
+
   rule : (s : List ℕ) (k : ℕ) (full part : Reading StepRead) → Cut network cap s k full part → CutRule k full part
   rule s k full part c = given-by-cut network cap s k (c .within) full part (c .whole) (c .before)
 
