@@ -7,10 +7,10 @@ use mathlib.Core.Path.{_≡_, refl}
 use lib.IntN.{ℤ, pos, negℤ}
 use Rattle.wire.specs.Bytes.{bigEndianFrom, bigEndian}
 use Rattle.wire.specs.Reader.{Answer, got, refused, mapAnswer, Segment, fold, listOf}
-use Rattle.utf8.specs.Utf8.{rows, leadIn, leadOf, utf8From, utf8}
+use Rattle.vlq_utf8.specs.Utf8.{rows, leadIn, leadOf, utf8From, utf8}
 use Rattle.vlq.specs.Vlq.{groups, vlq, vlqLength, vlqIn, vlqBytes}
 use Rattle.vlq.specs.ShortString.{string, shortString}
-use Rattle.zigzag.specs.Zigzag.{zigzagEncode, zigzagDecode}
+use Rattle.vlq_zigzag.specs.Zigzag.{zigzagEncode, zigzagDecode}
 use Rattle.types.specs.declared.Network.{Network}
 use Rattle.types.specs.declared.Network.the-variants.{Mainnet, Testnet}
 use Rattle.types.specs.declared.ProxyMode.the-variants.{Full}

@@ -1,8 +1,8 @@
 -- What is given of a message, an id and a payload: their numbers, in a row.
 use Prim.Native.Nat.{ℕ}
 use mathlib.Core.List.{List, [], _∷_}
-use Rattle.inventory_read.specs.declared.Inventory.{Inventory}
-use Rattle.inventory_read.specs.declared.Payload.{Payload}
+use Rattle.messages_inventory_read.specs.declared.Inventory.{Inventory}
+use Rattle.messages_inventory_read.specs.declared.Payload.{Payload}
 use Rattle.messages_read.specs.declared.Message.{Message}
 use Rattle.messages_read.specs.declared.Message.the-variants.{GetPeers, Peers, ModifierRequest, ModifierResponse, Inv, SyncInfo, Unknown}
 

@@ -12,10 +12,10 @@ use Rattle.wire.specs.Reader.{got, refused}
 use Rattle.wire.specs.declared.Part.{Part}
 use Rattle.wire.specs.declared.Written.{Written}
 use Rattle.wire.specs.declared.Written.the-variants.{To, Refused}
-use Rattle.utf8.specs.Utf8 as Utf8
-use Rattle.utf8.specs.Utf8.{leadIn, leadOf, utf8From, utf8}
+use Rattle.vlq_utf8.specs.Utf8 as Utf8
+use Rattle.vlq_utf8.specs.Utf8.{leadIn, leadOf, utf8From, utf8}
 use Rattle.vlq.specs.Vlq.{vlqIn, vlqBytes}
-use Rattle.zigzag.specs.Zigzag.{zigzagEncode}
+use Rattle.vlq_zigzag.specs.Zigzag.{zigzagEncode}
 use Rattle.types.specs.declared.Network.{Network}
 use Rattle.types.specs.declared.Network.the-variants.{Mainnet, Testnet}
 use Rattle.types.specs.declared.ProxyMode.{ProxyMode}

@@ -4,8 +4,8 @@ ghost use lib.ListN.{length};
 ghost use Rattle.wire.specs.Reader.{mapAnswer};
 ghost use Rattle.handshake_read.specs.Answers.{peerSpecOf};
 ghost use Rattle.messages.specs.Message.{payloadAfter, peersBody, message};
-ghost use Rattle.inventory_read.specs.Parts.{idAt, payloadAt};
-ghost use Rattle.inventory_read.specs.Answers.{idOf, payloadOf, payloadSum};
+ghost use Rattle.messages_inventory_read.specs.Parts.{idAt, payloadAt};
+ghost use Rattle.messages_inventory_read.specs.Answers.{idOf, payloadOf, payloadSum};
 ghost use Rattle.messages_read.specs.Parts.{entryAt};
 ghost use Rattle.messages_read.specs.Answers.{messageOf};
 ghost use Rattle.export_arrays.specs.Networks.{networkOf};
@@ -14,9 +14,9 @@ ghost use Rattle.export_arrays.specs.Messages.{messageNumbers, idOnly, payloadN
 ghost use Rattle.exports.specs.Results.{numberOf, arrayAfter};
 use export_arrays::bodies::message_numbers;
 use export_arrays::entries::entry_numbers;
-use inventory_read::IdRead;
-use inventory_read::PayloadAt;
-use inventory_read::PayloadRead;
+use messages_inventory_read::IdRead;
+use messages_inventory_read::PayloadAt;
+use messages_inventory_read::PayloadRead;
 use messages_read::MessageRead;
 use messages_read::PeerRead;
 use messages_read::PeersRead;
@@ -96,7 +96,7 @@ pub extern "C" fn haspeljo_id_by_index(body: &[u8], index: usize, r: &mut [u64; 
     ensures { λ n. ⌜ n ≡ numberOf (mapAnswer idOf (idAt index (now (body .entry)))) ⌝ }
     ensures { λ n. ⌜ now (r .exit) ≡ arrayAfter idOnly (mapAnswer idOf (idAt index (now (body .entry)))) (now (r .entry)) ⌝ }
 {
-    match inventory_read::id_by_index(body, index) {
+    match messages_inventory_read::id_by_index(body, index) {
         IdRead::Value(p) => {
             *r = [p.0 as u64];
             0
@@ -117,7 +117,7 @@ pub extern "C" fn haspeljo_read_payload(
     ensures { λ n. ⌜ n ≡ numberOf (mapAnswer (payloadSum total) (payloadAfter (length (now (body .entry))) total (now (body .entry)) at)) ⌝ }
     ensures { λ n. ⌜ now (r .exit) ≡ arrayAfter payloadTotal (mapAnswer (payloadSum total) (payloadAfter (length (now (body .entry))) total (now (body .entry)) at)) (now (r .entry)) ⌝ }
 {
-    match inventory_read::read_payload(body, BodyPlace(at), total) {
+    match messages_inventory_read::read_payload(body, BodyPlace(at), total) {
         PayloadRead::Value(p, next, sum) => {
             *r = [
                 p.id.0 as u64,
@@ -138,7 +138,7 @@ pub extern "C" fn haspeljo_payload_by_index(body: &[u8], index: usize, r: &mut [
     ensures { λ n. ⌜ n ≡ numberOf (mapAnswer payloadOf (payloadAt index (now (body .entry)))) ⌝ }
     ensures { λ n. ⌜ now (r .exit) ≡ arrayAfter payloadNext (mapAnswer payloadOf (payloadAt index (now (body .entry)))) (now (r .entry)) ⌝ }
 {
-    match inventory_read::payload_by_index(body, index) {
+    match messages_inventory_read::payload_by_index(body, index) {
         PayloadAt::Value(p, next) => {
             *r = [p.id.0 as u64, p.start.0 as u64, p.len as u64, next.0 as u64];
             0

@@ -4,11 +4,11 @@ ghost use mathlib.Core.Path.{_≡_};
 ghost use mathlib.Core.List.{[]};
 ghost use Rattle.wire.specs.Reader.{byte, part, partOf, mapAnswer};
 ghost use Rattle.wire.specs.Output.{written, outputAfter};
-ghost use Rattle.utf8.specs.Utf8.{utf8};
+ghost use Rattle.vlq_utf8.specs.Utf8.{utf8};
 ghost use Rattle.vlq.specs.Vlq.{vlq, vlqLength, vlqBytes};
 ghost use Rattle.vlq.specs.ShortString.{shortString, shortStringBytes};
 ghost use Rattle.vlq_write.specs.Asked.{shortStringAsked};
-ghost use Rattle.zigzag.specs.Zigzag.{zigzagEncode, zigzagDecode};
+ghost use Rattle.vlq_zigzag.specs.Zigzag.{zigzagEncode, zigzagDecode};
 ghost use Rattle.types.specs.declared.Address.the-variants.{V4, V6};
 ghost use Rattle.address_sanity.specs.Bogus.{bogus};
 ghost use Rattle.blake2b.specs.Blake2b.{blake2b256, check};
@@ -153,7 +153,7 @@ pub extern "C" fn haspeljo_write_part(out: &mut [u8], at: usize, s: &[u8], r: &m
     ensures { λ n. ⌜ now (r .exit) ≡ endAfter (written [] [] (now (out .entry)) at (now (s .entry))) (now (r .entry)) ⌝ }
     ensures { λ n. ⌜ now (out .exit) ≡ outputAfter (written [] [] (now (out .entry)) at (now (s .entry))) (now (out .entry)) at (now (s .entry)) ⌝ }
 {
-    match part_write::write_part(out, at, s) {
+    match wire_part_write::write_part(out, at, s) {
         Written::To(end) => {
             *r = [end as u64];
             0
@@ -166,28 +166,28 @@ pub extern "C" fn haspeljo_write_part(out: &mut [u8], at: usize, s: &[u8], r: &m
 pub extern "C" fn haspeljo_zigzag_encode(value: i32) -> u32
     ensures { λ r. ⌜ r ≡ zigzagEncode value ⌝ }
 {
-    zigzag::zigzag_encode(value)
+    vlq_zigzag::zigzag_encode(value)
 }
 
 #[no_mangle]
 pub extern "C" fn haspeljo_zigzag_decode(value: u32) -> i32
     ensures { λ r. ⌜ r ≡ zigzagDecode value ⌝ }
 {
-    zigzag::zigzag_decode(value)
+    vlq_zigzag::zigzag_decode(value)
 }
 
 #[no_mangle]
 pub extern "C" fn haspeljo_zigzag_encode_i64(value: i64) -> u64
     ensures { λ r. ⌜ r ≡ zigzagEncode value ⌝ }
 {
-    zigzag::zigzag_encode_i64(value)
+    vlq_zigzag::zigzag_encode_i64(value)
 }
 
 #[no_mangle]
 pub extern "C" fn haspeljo_zigzag_decode_i64(value: u64) -> i64
     ensures { λ r. ⌜ r ≡ zigzagDecode value ⌝ }
 {
-    zigzag::zigzag_decode_i64(value)
+    vlq_zigzag::zigzag_decode_i64(value)
 }
 
 // 1 if all of s is UTF-8, otherwise 0.
@@ -195,7 +195,7 @@ pub extern "C" fn haspeljo_zigzag_decode_i64(value: u64) -> i64
 pub extern "C" fn haspeljo_is_utf8(s: &[u8]) -> u8
     ensures { λ r. ⌜ r ≡ bit (utf8 (now (s .entry))) ⌝ }
 {
-    if utf8::is_utf8(s) { 1 } else { 0 }
+    if vlq_utf8::is_utf8(s) { 1 } else { 0 }
 }
 
 // 1 if the address is bogus on mainnet, or on testnet where mainnet is 0; otherwise 0.

@@ -33,7 +33,7 @@ pub extern "C" fn haspeljo_write_entry(
     ensures { λ n. ⌜ now (r .exit) ≡ endAfter (entryWritten (lent (now (entries .entry)) (now (features .entry)) (now (buffer .entry))) index (now (out .entry)) at) (now (r .entry)) ⌝ }
     ensures { λ n. ⌜ now (out .exit) ≡ outputAfter (entryWritten (lent (now (entries .entry)) (now (features .entry)) (now (buffer .entry))) index (now (out .entry)) at) (now (out .entry)) at (entryBytes (entryAt (lent (now (entries .entry)) (now (features .entry)) (now (buffer .entry))) index)) ⌝ }
 {
-    match entry_write::write_entry(out, at, entries, features, buffer, index) {
+    match handshake_entry_write::write_entry(out, at, entries, features, buffer, index) {
         Written::To(end) => {
             *r = [end as u64];
             0
@@ -127,7 +127,7 @@ pub extern "C" fn haspeljo_write_peers(
     ensures { λ n. ⌜ now (r .exit) ≡ endAfter (messageWritten (networkOf mainnet) cap (writePeers (lent (now (entries .entry)) (now (features .entry)) (now (buffer .entry)))) (now (out .entry)) at) (now (r .entry)) ⌝ }
     ensures { λ n. ⌜ now (out .exit) ≡ outputAfter (messageWritten (networkOf mainnet) cap (writePeers (lent (now (entries .entry)) (now (features .entry)) (now (buffer .entry)))) (now (out .entry)) at) (now (out .entry)) at (messageBytes (networkOf mainnet) (valueOf (writePeers (lent (now (entries .entry)) (now (features .entry)) (now (buffer .entry)))))) ⌝ }
 {
-    match peers_write::write_peers(
+    match messages_peers_write::write_peers(
         out,
         at,
         crate::network_of(mainnet),
@@ -159,7 +159,7 @@ pub extern "C" fn haspeljo_write_modifier_request(
     ensures { λ n. ⌜ now (r .exit) ≡ endAfter (messageWritten (networkOf mainnet) 0 (writeModifierRequest kind (now (ids .entry)) (now (buffer .entry))) (now (out .entry)) at) (now (r .entry)) ⌝ }
     ensures { λ n. ⌜ now (out .exit) ≡ outputAfter (messageWritten (networkOf mainnet) 0 (writeModifierRequest kind (now (ids .entry)) (now (buffer .entry))) (now (out .entry)) at) (now (out .entry)) at (messageBytes (networkOf mainnet) (valueOf (writeModifierRequest kind (now (ids .entry)) (now (buffer .entry))))) ⌝ }
 {
-    match inventory_write::write_modifier_request(
+    match messages_inventory_write::write_modifier_request(
         out,
         at,
         crate::network_of(mainnet),
@@ -190,7 +190,7 @@ pub extern "C" fn haspeljo_write_modifier_response(
     ensures { λ n. ⌜ now (r .exit) ≡ endAfter (messageWritten (networkOf mainnet) 0 (writeModifierResponse kind (now (payloads .entry)) (now (buffer .entry))) (now (out .entry)) at) (now (r .entry)) ⌝ }
     ensures { λ n. ⌜ now (out .exit) ≡ outputAfter (messageWritten (networkOf mainnet) 0 (writeModifierResponse kind (now (payloads .entry)) (now (buffer .entry))) (now (out .entry)) at) (now (out .entry)) at (messageBytes (networkOf mainnet) (valueOf (writeModifierResponse kind (now (payloads .entry)) (now (buffer .entry))))) ⌝ }
 {
-    match response_write::write_modifier_response(
+    match messages_response_write::write_modifier_response(
         out,
         at,
         crate::network_of(mainnet),
@@ -221,7 +221,14 @@ pub extern "C" fn haspeljo_write_inv(
     ensures { λ n. ⌜ now (r .exit) ≡ endAfter (messageWritten (networkOf mainnet) 0 (writeInv kind (now (ids .entry)) (now (buffer .entry))) (now (out .entry)) at) (now (r .entry)) ⌝ }
     ensures { λ n. ⌜ now (out .exit) ≡ outputAfter (messageWritten (networkOf mainnet) 0 (writeInv kind (now (ids .entry)) (now (buffer .entry))) (now (out .entry)) at) (now (out .entry)) at (messageBytes (networkOf mainnet) (valueOf (writeInv kind (now (ids .entry)) (now (buffer .entry))))) ⌝ }
 {
-    match inventory_write::write_inv(out, at, crate::network_of(mainnet), kind, ids, buffer) {
+    match messages_inventory_write::write_inv(
+        out,
+        at,
+        crate::network_of(mainnet),
+        kind,
+        ids,
+        buffer,
+    ) {
         Written::To(end) => {
             *r = [end as u64];
             0

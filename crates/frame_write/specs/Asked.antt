@@ -5,7 +5,7 @@ use lib.Dec.{leb}
 use Rattle.wire.specs.Output.{ask}
 use Rattle.wire.specs.declared.Written.{Written}
 use Rattle.vlq.specs.Vlq.{limit}
-use Rattle.output_ask.specs.Asked.{writtenFor}
+use Rattle.wire_output.specs.Asked.{writtenFor}
 
 -- the length of a frame with a body of n bytes is 9, or 13 plus the body
 unfoldable pub frameLength : ℕ → ℕ

@@ -75,7 +75,7 @@ fn put_body(out: &mut [u8], at: usize, network: Network, code: u8, body: &[u8]) 
     requires { ⌜ at + frameLength (length (now body)) ≤ length (now out) ⌝ }
     ensures { λ r. ⌜ Wrote (now (out .entry)) at (frameBytes network code (now (body .entry))) r (now (out .exit)) ⌝ }
 {
-    part_write::write_part(out, at + HEADER_SIZE, body);
+    wire_part_write::write_part(out, at + HEADER_SIZE, body);
     put_frame(out, at, network, code, body.len())
 }
 

@@ -5,7 +5,7 @@ use mathlib.Core.Option.{Option, none, some}
 use mathlib.Core.Path.{_≡_, refl}
 use Rattle.wire.specs.Bytes.{bigEndianFrom, bigEndian, sameBytes}
 use Rattle.wire.specs.Reader.{Answer, got, refused, Segment, fold, listOf}
-use Rattle.utf8.specs.Utf8.{rows, leadIn, leadOf, utf8From, utf8}
+use Rattle.vlq_utf8.specs.Utf8.{rows, leadIn, leadOf, utf8From, utf8}
 use Rattle.vlq.specs.Vlq.{groups, vlq, vlqLength}
 use Rattle.vlq.specs.ShortString.{string, shortString}
 use Rattle.types.specs.declared.Network.{Network}

@@ -10,7 +10,7 @@ use Rattle.types.specs.declared.ProxyMode.{ProxyMode}
 use Rattle.types.specs.declared.ProxyMode.the-variants.{Full, Light}
 use Rattle.types.specs.declared.Address.the-variants.{None}
 use Rattle.vlq.specs.Vlq.{vlqIn, vlqBytes}
-use Rattle.zigzag.specs.Zigzag.{zigzagEncode}
+use Rattle.vlq_zigzag.specs.Zigzag.{zigzagEncode}
 use Rattle.handshake.specs.Value.{FeatureValue}
 use Rattle.handshake.specs.Writes.{Config, nipopow, modeFeature, sessionFeature}
 

@@ -12,10 +12,10 @@ use Rattle.wire.specs.Bytes.{bigEndianFrom, bigEndian, bigEndianBytes, every}
 use Rattle.wire.specs.Output.{asked, written}
 use Rattle.wire.specs.declared.Written.{Written}
 use Rattle.wire.specs.declared.Written.the-variants.{To, Refused}
-use Rattle.utf8.specs.Utf8 as Utf8
-use Rattle.utf8.specs.Utf8.{leadIn, leadOf, utf8From, utf8}
+use Rattle.vlq_utf8.specs.Utf8 as Utf8
+use Rattle.vlq_utf8.specs.Utf8.{leadIn, leadOf, utf8From, utf8}
 use Rattle.vlq.specs.Vlq.{vlqIn, vlqBytes}
-use Rattle.zigzag.specs.Zigzag.{zigzagEncode}
+use Rattle.vlq_zigzag.specs.Zigzag.{zigzagEncode}
 use Rattle.types.specs.declared.Network.the-variants.{Mainnet}
 use Rattle.types.specs.declared.ProxyMode.the-variants.{Full}
 use Rattle.types.specs.declared.Version.{Version}

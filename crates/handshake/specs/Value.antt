@@ -7,7 +7,7 @@ use lib.Dec.{leb}
 use lib.ListN.{length}
 use Rattle.wire.specs.Bytes.{bigEndianBytes, every}
 use Rattle.wire.specs.Output.{Question, ask}
-use Rattle.utf8.specs.Utf8.{utf8}
+use Rattle.vlq_utf8.specs.Utf8.{utf8}
 use Rattle.vlq.specs.Vlq.{limit, vlqBytes}
 use Rattle.vlq.specs.ShortString.{shortStringBytes}
 use Rattle.types.specs.declared.Version.{Version}

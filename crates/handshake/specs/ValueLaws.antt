@@ -18,7 +18,7 @@ use Rattle.wire.specs.ReaderLaws.{field-got}
 use Rattle.wire.specs.ReadsBack.{StandsAt, ReadsBack}
 use Rattle.wire.specs.ReadsBackLaws.{reads-pure, reads-place, reads-then, reads-last, reads-byte, reads-part}
 use Rattle.wire.specs.ListLaws.{reads-each}
-use Rattle.utf8.specs.Utf8.{utf8}
+use Rattle.vlq_utf8.specs.Utf8.{utf8}
 use Rattle.vlq.specs.Vlq.{limit}
 use Rattle.vlq.specs.VlqLaws.{reads-vlq, reads-vlqLength}
 use Rattle.vlq.specs.ShortStringLaws.{reads-shortString}

@@ -8,7 +8,7 @@ use lib.ListN.{length}
 use Rattle.wire.specs.Output.{Question, ask, written}
 use Rattle.wire.specs.declared.Written.{Written}
 use Rattle.vlq.specs.Vlq.{vlqBytes}
-use Rattle.zigzag.specs.Zigzag.{zigzagEncode}
+use Rattle.vlq_zigzag.specs.Zigzag.{zigzagEncode}
 use Rattle.types.specs.declared.Network.{Network}
 use Rattle.types.specs.declared.ProxyMode.{ProxyMode}
 use Rattle.types.specs.declared.ProxyMode.the-variants.{Full, Light}

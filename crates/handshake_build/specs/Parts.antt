@@ -6,14 +6,14 @@ use mathlib.Core.Path.{_≡_}
 use lib.ListN.{length}
 use Rattle.wire.specs.declared.Written.{Written}
 use Rattle.wire.specs.declared.Written.the-variants.{To, Refused}
-use Rattle.utf8.specs.Utf8.{utf8}
+use Rattle.vlq_utf8.specs.Utf8.{utf8}
 use Rattle.vlq.specs.Vlq.{vlqBytes}
 use Rattle.vlq.specs.ShortString.{shortStringBytes}
-use Rattle.output_ask.specs.Asked.{writtenFor}
+use Rattle.wire_output.specs.Asked.{writtenFor}
 use Rattle.handshake.specs.Value.{featureBytes, versionBytes, handshakeBytes, entriesAsked}
 use Rattle.handshake.specs.Writes.{built}
 use Rattle.handshake.specs.Writes as writes
-use Rattle.feature_write.specs.Features.{modeFeatureOf, sessionFeatureOf}
+use Rattle.handshake_features_write.specs.Features.{modeFeatureOf, sessionFeatureOf}
 use Rattle.handshake_build.specs.declared.Config.{Config}
 
 -- what `build` is given, as its definition has it

@@ -15,13 +15,13 @@ use Rattle.wire.specs.Output.{Question, asked, written, outputAfter, Wrote}
 use Rattle.wire.specs.OutputLaws.{AllHold, written-to, wrote-checked}
 use Rattle.wire.specs.declared.Written.{Written}
 use Rattle.wire.specs.declared.Written.the-variants.{To}
-use Rattle.utf8.specs.Utf8.{utf8}
+use Rattle.vlq_utf8.specs.Utf8.{utf8}
 use Rattle.vlq.specs.Vlq.{limit, vlqBytes}
 use Rattle.vlq.specs.ShortString.{shortStringBytes}
 use Rattle.handshake.specs.Value.{FeatureValue, featureBytes, versionBytes, addressBytes, entryBytes, handshakeBytes, shortStrings, utf8Strings, fewFeatures, lengthsWithin, entriesAsked}
 use Rattle.handshake.specs.Writes.{modeFeature, sessionFeature, built}
-use Rattle.output_ask.specs.Asked.{placed}
-use Rattle.feature_write.specs.Features.{modeFeatureOf, sessionFeatureOf}
+use Rattle.wire_output.specs.Asked.{placed}
+use Rattle.handshake_features_write.specs.Features.{modeFeatureOf, sessionFeatureOf}
 use Rattle.handshake_build.specs.declared.Config.{Config}
 use Rattle.handshake_build.specs.Parts.{endOf, configOf, builtSaid, BuildReady, headBytes, modeBytes, sessionBytes}
 

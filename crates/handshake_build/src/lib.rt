@@ -8,14 +8,12 @@ ghost use Rattle.vlq.specs.Vlq.{vlqBytes};
 ghost use Rattle.handshake.specs.Value.{AddressTyped, addressBytes, versionBytes, handshakeBytes};
 ghost use Rattle.handshake.specs.Writes.{built, builtWritten};
 ghost use Rattle.handshake_build.specs.Parts.{endOf, configOf, builtSaid, BuildReady, headBytes, modeBytes, sessionBytes};
-use address_write::address_len;
-use address_write::write_address;
-use feature_write::mode_len;
-use feature_write::session_len;
-use feature_write::write_mode;
-use feature_write::write_session;
-use output_ask::ask_place;
-use part_write::write_byte;
+use handshake_address_write::address_len;
+use handshake_address_write::write_address;
+use handshake_features_write::mode_len;
+use handshake_features_write::session_len;
+use handshake_features_write::write_mode;
+use handshake_features_write::write_session;
 use types::Address;
 use types::Network;
 use types::ProxyMode;
@@ -24,6 +22,8 @@ use vlq_write::vlq_len;
 use vlq_write::write_short_string;
 use vlq_write::write_vlq;
 use wire::Written;
+use wire_output::ask_place;
+use wire_part_write::write_byte;
 
 // What `build` is given beside agent and name. In the Mode feature: the state type byte, whether transactions are verified, and how many
 // blocks are kept.
@@ -66,10 +66,10 @@ fn ask_build(len: usize, at: usize, config: Config, agent: &[u8], name: &[u8]) -
     if 255 < name.len() {
         return Written::Refused(13);
     }
-    if !utf8::is_utf8(agent) {
+    if !vlq_utf8::is_utf8(agent) {
         return Written::Refused(4);
     }
-    if !utf8::is_utf8(name) {
+    if !vlq_utf8::is_utf8(name) {
         return Written::Refused(4);
     }
     ask_place(

@@ -3,7 +3,7 @@ use Prim.Native.Nat.{ℕ}
 use mathlib.Core.List.{List, [], _∷_, map}
 use mathlib.Core.Path.{_≡_, refl}
 use Rattle.wire.specs.Reader.{Answer, got, refused, fold, listOf}
-use Rattle.utf8.specs.Utf8.{utf8From, utf8}
+use Rattle.vlq_utf8.specs.Utf8.{utf8From, utf8}
 use Rattle.vlq.specs.Vlq.{groups, vlq, vlqLength}
 use Rattle.vlq.specs.ShortString.{string, shortString}
 use Rattle.handshake.specs.Entry.{EntryFeature, version, addressIf, feature, entry}

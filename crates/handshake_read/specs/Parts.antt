@@ -7,7 +7,7 @@ use Rattle.vlq.specs.ShortString.{shortString}
 use Rattle.types.specs.declared.Version.{Version}
 use Rattle.types.specs.declared.Address.{Address}
 use Rattle.handshake.specs.Entry.{version, EntryFeature, feature, entry}
-use Rattle.address_read.specs.DeclaredAddress.{declaredAddress}
+use Rattle.handshake_address_read.specs.DeclaredAddress.{declaredAddress}
 
 -- the feature with this index, and the place where its body ends
 -- Is the index inside? 12

@@ -18,7 +18,7 @@ use Rattle.types.specs.declared.Address.{Address}
 use Rattle.handshake.specs.Entry.{version, addressIf, EntryFeature, feature, Entry, entry}
 use Rattle.handshake.specs.PlacesLaws.{gives-feature, gives-entry}
 use Rattle.handshake.specs.Verdict.{firstFeature}
-use Rattle.address_read.specs.DeclaredAddress.{declaredAddress}
+use Rattle.handshake_address_read.specs.DeclaredAddress.{declaredAddress}
 use Rattle.handshake_read.specs.Parts.{EntryHead, head, EntryFeatures, features, nth, featureAt}
 
 -- ---- an entry is its head and then its features

@@ -1,11 +1,11 @@
-// Entries and handshakes, read from lent bytes (transport/handshake.rs). The readers of an address stand in address_read.
+// Entries and handshakes, read from lent bytes (transport/handshake.rs). The readers of an address stand in handshake_address_read.
 ghost use mathlib.Core.Path.{_≡_};
 ghost use Rattle.wire.specs.Reader.{andThen, place, mapAnswer, listOf};
 ghost use Rattle.handshake.specs.Entry.{version, feature, entry, handshake};
 ghost use Rattle.handshake_read.specs.Parts.{head, features, featureAt};
 ghost use Rattle.handshake_read.specs.Answers.{headOf, featuresOf, featureOf, ended, peerSpecOf, handshakeOf};
 ghost use Rattle.handshake_read.specs.Answers.{versionAnswer, headAnswer, featureAnswer, endAnswer, featuresAnswer, entryAnswer, handshakeAnswer, sizeAnswer};
-use address_read::AddressRead;
+use handshake_address_read::AddressRead;
 use types::Address;
 use types::Version;
 use vlq::ByteRead;
@@ -202,7 +202,10 @@ fn read_head(s: &[u8], c: Cursor) -> HeadRead
     match c.read_short_string(s) {
         PartRead::Value(agent, d) => match read_version(s, d) {
             VersionRead::Value(version, e) => match e.read_short_string(s) {
-                PartRead::Value(name, f) => match address_read::read_declared_address(s, f) {
+                PartRead::Value(name, f) => match handshake_address_read::read_declared_address(
+                    s,
+                    f,
+                ) {
                     AddressRead::Value(address, g) => HeadRead::Value(
                         Head {
                             agent,

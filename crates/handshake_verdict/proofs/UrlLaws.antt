@@ -10,7 +10,7 @@ use Rattle.wire.specs.declared.Part.{Part}
 use Rattle.wire.specs.Reader.{got, refused, andThen, Segment, byte, part, guard}
 use Rattle.wire.specs.AnswerLaws.{no-answer, bind-got}
 use Rattle.wire.specs.ReaderLaws.{length-part, part-at}
-use Rattle.utf8.specs.Utf8.{utf8}
+use Rattle.vlq_utf8.specs.Utf8.{utf8}
 use Rattle.vlq.specs.ShortString.{string, shortString}
 use Rattle.handshake.specs.Entry.{Entry}
 use Rattle.handshake.specs.Verdict.{firstFeature, stringFrom, urlOf, restApiUrl}

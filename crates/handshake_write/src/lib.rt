@@ -10,11 +10,11 @@ ghost use Rattle.handshake.specs.Value.{handshakeBytes};
 ghost use Rattle.handshake.specs.Tables.{lent};
 ghost use Rattle.handshake.specs.Writes.{handshakeAt, handshakeWritten};
 ghost use Rattle.handshake_write.specs.Behind.{behind};
-use entry_write::write_entry;
-use output_ask::has_room;
+use handshake_entry_write::write_entry;
 use vlq_write::vlq_len;
 use vlq_write::write_vlq;
 use wire::Written;
+use wire_output::has_room;
 
 // A timestamp with the entry in row k. The entry is written first, behind the timestamp's place: its writer asks every question.
 // The last clause is what the types of timestamp and buffer say; written sessions rest on it.

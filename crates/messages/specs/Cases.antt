@@ -6,7 +6,7 @@ use mathlib.Core.List.{List, [], _∷_, _++_, map, flatMap}
 use mathlib.Core.Path.{_≡_, refl}
 use lib.ListN.{replicate}
 use Rattle.wire.specs.Reader.{Answer, got, refused, fold, listOf}
-use Rattle.utf8.specs.Utf8.{utf8From, utf8}
+use Rattle.vlq_utf8.specs.Utf8.{utf8From, utf8}
 use Rattle.vlq.specs.Vlq.{groups, vlq, vlqLength, vlqIn, vlqBytes}
 use Rattle.vlq.specs.ShortString.{string, shortString}
 use Rattle.types.specs.declared.Address.the-variants.{None}

@@ -13,8 +13,8 @@ use Rattle.wire.specs.BytesLaws.{length-flatMap-cons}
 use Rattle.wire.specs.Output.{asked, written}
 use Rattle.wire.specs.declared.Written.{Written}
 use Rattle.wire.specs.declared.Written.the-variants.{To, Refused}
-use Rattle.utf8.specs.Utf8 as Utf8
-use Rattle.utf8.specs.Utf8.{leadIn, leadOf, utf8From, utf8}
+use Rattle.vlq_utf8.specs.Utf8 as Utf8
+use Rattle.vlq_utf8.specs.Utf8.{leadIn, leadOf, utf8From, utf8}
 use Rattle.vlq.specs.Vlq.{limit, vlqIn, vlqBytes}
 use Rattle.types.specs.declared.Network.the-variants.{Mainnet}
 use Rattle.types.specs.declared.Address.the-variants.{None}

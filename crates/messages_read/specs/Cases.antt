@@ -3,13 +3,13 @@ use Prim.Native.Nat.{ℕ, _+_}
 use mathlib.Core.List.{List, [], _∷_, _++_, map}
 use mathlib.Core.Path.{_≡_, refl}
 use Rattle.wire.specs.Reader.{Answer, got, refused, fold, listOf}
-use Rattle.utf8.specs.Utf8.{utf8From, utf8}
+use Rattle.vlq_utf8.specs.Utf8.{utf8From, utf8}
 use Rattle.vlq.specs.Vlq.{groups, vlq, vlqLength}
 use Rattle.vlq.specs.ShortString.{string, shortString}
 use Rattle.types.specs.declared.Address.the-variants.{None}
 use Rattle.handshake.specs.Entry.{Entry, version, addressIf, entry}
 use Rattle.messages.specs.Message.{count}
-use Rattle.inventory_read.specs.Parts.{itemOf}
+use Rattle.messages_inventory_read.specs.Parts.{itemOf}
 use Rattle.messages_read.specs.Parts.{entries, entriesStart, entryAt}
 use Rattle.handshake_read.specs.declared.PeerSpec.{PeerSpec}
 use Rattle.messages_read.specs.Answers.{peerAnswer}

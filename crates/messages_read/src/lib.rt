@@ -13,15 +13,15 @@ ghost use Rattle.messages_read.specs.Answers.{messageOf, ended};
 ghost use Rattle.messages_read.specs.Answers.{messageAnswer, peersAnswer, peerAnswer, endAnswer, bogusAnswer};
 use handshake_read::EntryRead;
 use handshake_read::PeerSpec;
-use inventory_read::CountRead;
-use inventory_read::Inventory;
-use inventory_read::InventoryRead;
 use messages::GET_PEERS;
 use messages::INV;
 use messages::MODIFIER_REQUEST;
 use messages::MODIFIER_RESPONSE;
 use messages::PEERS;
 use messages::SYNC_INFO;
+use messages_inventory_read::CountRead;
+use messages_inventory_read::Inventory;
+use messages_inventory_read::InventoryRead;
 use types::Address;
 use types::BodyPlace;
 use types::Network;
@@ -84,7 +84,7 @@ pub fn from_frame(code: u8, body: &[u8], cap: usize, network: Network) -> Messag
         };
     }
     if code == MODIFIER_REQUEST {
-        return match inventory_read::parse_inv_body(body) {
+        return match messages_inventory_read::parse_inv_body(body) {
             InventoryRead::Value(ids, end) => MessageRead::Value(
                 Message::ModifierRequest(ids),
                 end,
@@ -93,7 +93,7 @@ pub fn from_frame(code: u8, body: &[u8], cap: usize, network: Network) -> Messag
         };
     }
     if code == MODIFIER_RESPONSE {
-        return match inventory_read::parse_modifier_response_body(body) {
+        return match messages_inventory_read::parse_modifier_response_body(body) {
             InventoryRead::Value(payloads, end) => MessageRead::Value(
                 Message::ModifierResponse(payloads),
                 end,
@@ -102,7 +102,7 @@ pub fn from_frame(code: u8, body: &[u8], cap: usize, network: Network) -> Messag
         };
     }
     if code == INV {
-        return match inventory_read::parse_inv_body(body) {
+        return match messages_inventory_read::parse_inv_body(body) {
             InventoryRead::Value(ids, end) => MessageRead::Value(Message::Inv(ids), end),
             InventoryRead::Refused(m) => MessageRead::Refused(m),
         };
@@ -117,7 +117,7 @@ pub fn from_frame(code: u8, body: &[u8], cap: usize, network: Network) -> Messag
 pub fn parse_peers_body(body: &[u8], cap: usize, network: Network) -> PeersRead
     ensures { λ r. ⌜ peersAnswer r ≡ mapAnswer (messageOf network (now (body .entry))) (peersBody cap (now (body .entry)) 0) ⌝ }
 {
-    match inventory_read::read_count(body, Cursor { at: 0 }, cap) {
+    match messages_inventory_read::read_count(body, Cursor { at: 0 }, cap) {
         CountRead::Value(n, c) => {
             let start = BodyPlace(c.at);
             match count_bogus(body, c, n, network) {
@@ -150,7 +150,7 @@ pub fn read_entry(body: &[u8], at: BodyPlace) -> PeerRead
 pub fn entry_by_index(body: &[u8], cap: usize, index: usize) -> PeerRead
     ensures { λ r. ⌜ peerAnswer r ≡ mapAnswer peerSpecOf (entryAt cap index (now (body .entry))) ⌝ }
 {
-    match inventory_read::read_count(body, Cursor { at: 0 }, cap) {
+    match messages_inventory_read::read_count(body, Cursor { at: 0 }, cap) {
         CountRead::Value(count, c) => entry_among(body, c, count, index),
         CountRead::Refused(m) => PeerRead::Refused(m),
     }

@@ -7,7 +7,7 @@ use lib.Dec.{leb}
 use Rattle.wire.specs.Output.{ask}
 use Rattle.wire.specs.declared.Written.{Written}
 use Rattle.vlq.specs.Vlq.{limit}
-use Rattle.output_ask.specs.Asked.{writtenFor}
+use Rattle.wire_output.specs.Asked.{writtenFor}
 use Rattle.frame_write.specs.Asked.{frameLength}
 use Rattle.messages.specs.Value.{unknownCode}
 

@@ -1,5 +1,5 @@
 // Messages, written as whole frames into a lent output from a place (protocol/messages.rs): GetPeers, SyncInfo and those of other codes.
-// ModifierRequest and Inv stand in inventory_write, ModifierResponse in response_write, Peers in peers_write.
+// ModifierRequest and Inv stand in messages_inventory_write, ModifierResponse in messages_response_write, Peers in messages_peers_write.
 ghost use mathlib.Core.Path.{_≡_};
 ghost use Rattle.wire.specs.Output.{outputAfter};
 ghost use Rattle.messages.specs.Value.{unknownCode};

@@ -5,7 +5,7 @@ use mathlib.Core.Path.{_≡_, refl}
 use lib.ListN.{length, take, replicate}
 use Rattle.wire.specs.Bytes.{bigEndian, bigEndianFrom, sameBytes}
 use Rattle.wire.specs.Reader.{fold, listOf}
-use Rattle.utf8.specs.Utf8.{rows, leadIn, leadOf, utf8From, utf8}
+use Rattle.vlq_utf8.specs.Utf8.{rows, leadIn, leadOf, utf8From, utf8}
 use Rattle.vlq.specs.Vlq.{groups, vlq}
 use Rattle.vlq.specs.ShortString.{string, shortString}
 use Rattle.types.specs.Order.{thenBy, below}
@@ -17,7 +17,7 @@ use Rattle.messages.specs.Message.{peers, unknown, message}
 use Rattle.walk.specs.Walk as Walk
 use Rattle.walk.specs.Walk.{clean, stopped, stepTo, onward, step, walkIn, walk, reading}
 use Rattle.walk.specs.Session.{messageFields, peersVerdict, noVerdict, messageVerdict, handshakeItem, messageItem, frameItem, handshakeAt, messageAt, sessionReading}
-use Rattle.input_read.specs.declared.Input.the-variants.{Bytes, Failed}
+use Rattle.report_input_read.specs.declared.Input.the-variants.{Bytes, Failed}
 use Rattle.report_text.specs.Lines.{ascii, decimalIn, decimal, field, span, versionText, handshakeLine, messageText, messageLine, peersLine, stopLine, endLine}
 use Rattle.report_lines.specs.StepLines.{stopText}
 use Rattle.report.specs.Report.{contentLine, endingLine, reportText, sessionText, inputText}

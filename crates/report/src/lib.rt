@@ -5,8 +5,8 @@ ghost use lib.ListN.{length};
 ghost use Rattle.wire.specs.Output.{put};
 ghost use Rattle.io.specs.Counts.{Counts};
 ghost use Rattle.report.specs.Report.{lineAt, nextAt, blockAt, blockNext, reportText, sessionText, inputText};
-use input_read::Input;
 use libc::STDOUT_FILENO;
+use report_input_read::Input;
 use types::Network;
 use types::StreamPlace;
 use walk_read::StepRead;
@@ -27,7 +27,7 @@ const CAP: usize = 64;
 // All that the program `session` does: it reads its input, of which one byte more than the longest is enough to tell, and prints what is to be printed.
 pub fn print_input(fd: i32) {
     let mut input = [0u8; MAX_INPUT + 1];
-    let read = input_read::read_input(fd, &mut input);
+    let read = report_input_read::read_input(fd, &mut input);
     print_read(read, &input);
 }
 
@@ -37,7 +37,7 @@ pub fn print_read(read: Input, buf: &[u8]) -> u64
     ensures { λ r. ⌜ r ≡ length (inputText read (now (buf .entry))) % 2 ^ 64 ⌝ }
 {
     match read {
-        Input::Bytes(n) => print_session(&buf[..input_read::least(n, buf.len())]),
+        Input::Bytes(n) => print_session(&buf[..report_input_read::least(n, buf.len())]),
         Input::Failed => {
             io::write_all(STDOUT_FILENO, b"unread\n");
             7
@@ -86,7 +86,7 @@ pub fn put_lines(out: &mut [u8], s: &[u8], network: Network, cap: usize, at: Str
     while more && 192 <= out.len() - len {
         let mut line = [0u8; 192];
         let next = next_line(&mut line, s, network, cap, StreamPlace(place));
-        part_write::write_part(out, len, &line[..next.len]);
+        wire_part_write::write_part(out, len, &line[..next.len]);
         len += next.len;
         place = next.at.0;
         more = next.more;

@@ -134,8 +134,8 @@ fn field(line: &mut [u8], at: usize, text: &[u8], n: u64) -> usize
     let mut digits = [0u8; 20];
     let k = io::decimal(n, &mut digits);
     let next = at + text.len();
-    part_write::write_part(line, at, text);
-    part_write::write_part(line, next, &digits[..k]);
+    wire_part_write::write_part(line, at, text);
+    wire_part_write::write_part(line, next, &digits[..k]);
     next + k
 }
 

@@ -2,8 +2,8 @@
 // after the other; and last, twice, what it prints where its input can't be read.
 ghost use Prim.Native.Nat.{_≤_, _<_};
 ghost use lib.ListN.{length};
-use input_read::Input;
 use libc::STDIN_FILENO;
+use report_input_read::Input;
 
 // No file has this descriptor, so that a read of it fails.
 const NO_FILE: i32 = -1;

@@ -3,7 +3,7 @@ use Prim.Native.Nat.{ℕ}
 use mathlib.Core.List.{List, _∷_}
 use lib.ListN.{length}
 use Rattle.wire.specs.Reader.{Reader, andThen, guard, byte, Segment, part}
-use Rattle.utf8.specs.Utf8.{utf8}
+use Rattle.vlq_utf8.specs.Utf8.{utf8}
 
 -- n bytes of UTF-8
 -- Are they all there? 1. Is the string UTF-8? 4

@@ -13,7 +13,7 @@ use Rattle.wire.specs.Stable.{Stable}
 use Rattle.wire.specs.StableLaws.{stable-then, stable-guard, stable-byte, stable-part}
 use Rattle.wire.specs.ReadsBack.{ReadsBack, Placed}
 use Rattle.wire.specs.ReadsBackLaws.{bytesOf, reads-then, reads-last, reads-guard, reads-byte, reads-part}
-use Rattle.utf8.specs.Utf8.{utf8}
+use Rattle.vlq_utf8.specs.Utf8.{utf8}
 use Rattle.vlq.specs.ShortString.{string, shortString, shortStringBytes}
 
 module _ (n : ℕ) (s : List ℕ) (at : ℕ) where

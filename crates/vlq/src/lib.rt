@@ -135,7 +135,7 @@ impl Cursor {
             return PartRead::Refused(1);
         }
         let end = at + n;
-        if utf8::is_utf8(&s[at..end]) {
+        if vlq_utf8::is_utf8(&s[at..end]) {
             PartRead::Value(Part { start: at, len: n }, Cursor { at: end })
         } else {
             PartRead::Refused(4)

@@ -4,7 +4,7 @@ use mathlib.Core.List.{List, [], _∷_}
 use lib.Dec.{leb}
 use lib.ListN.{length}
 use Rattle.wire.specs.Output.{Question, ask}
-use Rattle.utf8.specs.Utf8.{utf8}
+use Rattle.vlq_utf8.specs.Utf8.{utf8}
 
 -- Has the string at most 255 bytes? 13. Is it UTF-8? 4
 abbrev pub shortStringAsked : List ℕ → List Question

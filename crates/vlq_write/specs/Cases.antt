@@ -6,7 +6,7 @@ use lib.ListN.{replicate}
 use Rattle.wire.specs.declared.Written.{Written}
 use Rattle.wire.specs.declared.Written.the-variants.{To, Refused}
 use Rattle.wire.specs.Output.{put, asked, written, outputAfter}
-use Rattle.utf8.specs.Utf8.{rows, leadIn, leadOf, utf8From, utf8}
+use Rattle.vlq_utf8.specs.Utf8.{rows, leadIn, leadOf, utf8From, utf8}
 use Rattle.vlq.specs.ShortString.{shortStringBytes}
 use Rattle.vlq_write.specs.Asked.{shortStringAsked}
 

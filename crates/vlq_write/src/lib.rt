@@ -7,12 +7,12 @@ ghost use lib.ListN.{length};
 ghost use Rattle.wire.specs.Output.{written, outputAfter, Wrote};
 ghost use Rattle.vlq.specs.Vlq.{vlqBytes};
 ghost use Rattle.vlq.specs.ShortString.{shortStringBytes};
-ghost use Rattle.output_ask.specs.Asked.{writtenFor};
+ghost use Rattle.wire_output.specs.Asked.{writtenFor};
 ghost use Rattle.vlq_write.specs.Asked.{shortStringAsked};
-use output_ask::ask_room;
-use output_ask::has_room;
-use part_write::write_part;
 use wire::Written;
+use wire_output::ask_room;
+use wire_output::has_room;
+use wire_part_write::write_part;
 
 // How many bytes the shortest VLQ of v has.
 pub fn vlq_len(v: u64) -> usize
@@ -64,7 +64,7 @@ fn ask_short_string(len: usize, at: usize, s: &[u8]) -> Written
     if 255 < s.len() {
         return Written::Refused(13);
     }
-    if !utf8::is_utf8(s) {
+    if !vlq_utf8::is_utf8(s) {
         return Written::Refused(4);
     }
     ask_room(len, at, s.len() + 1)

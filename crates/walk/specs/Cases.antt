@@ -9,7 +9,7 @@ use lib.ListN.{take, replicate}
 use Rattle.wire.specs.Bytes.{bigEndian, bigEndianFrom, bigEndianBytes, sameBytes, every}
 use Rattle.wire.specs.Output.{put, asked, written, outputAfter}
 use Rattle.wire.specs.Reader.{got, fold, listOf}
-use Rattle.utf8.specs.Utf8.{rows, leadIn, leadOf, utf8From, utf8}
+use Rattle.vlq_utf8.specs.Utf8.{rows, leadIn, leadOf, utf8From, utf8}
 use Rattle.vlq.specs.Vlq.{groups, vlq, vlqLength, vlqIn, vlqBytes}
 use Rattle.vlq.specs.ShortString.{string, shortString}
 use Rattle.types.specs.Order.{thenBy, below}

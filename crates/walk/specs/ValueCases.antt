@@ -8,10 +8,10 @@ use lib.IntN.{negsuc}
 use lib.ListN.{replicate}
 use Rattle.wire.specs.Bytes.{bigEndian, bigEndianFrom}
 use Rattle.wire.specs.Reader.{got, fold, listOf}
-use Rattle.utf8.specs.Utf8.{rows, leadIn, leadOf, utf8From, utf8}
+use Rattle.vlq_utf8.specs.Utf8.{rows, leadIn, leadOf, utf8From, utf8}
 use Rattle.vlq.specs.Vlq.{groups, vlq, vlqLength, vlqIn, vlqBytes}
 use Rattle.vlq.specs.ShortString.{string, shortString}
-use Rattle.zigzag.specs.Zigzag.{zigzagEncode}
+use Rattle.vlq_zigzag.specs.Zigzag.{zigzagEncode}
 use Rattle.types.specs.declared.Address.{Address}
 use Rattle.types.specs.declared.Address.the-variants.{V4, V6}
 use Rattle.types.specs.declared.Network.the-variants.{Mainnet}

@@ -16,7 +16,7 @@ const SEED: u64 = 7693;
 const PER_KIND: usize = 6;
 /// How many cases of each function, at least, are no refusals.
 const ACCEPTED: usize = 10;
-/// The longest input beside a function's boundaries, and the longest file, that `crates/replay` takes.
+/// The longest input beside a function's boundaries, and the longest file, that `crates/export_replay` takes.
 const LONGEST_INPUT: usize = 400;
 const LONGEST_FILE: usize = 240_000;
 /// The longest output that it has.

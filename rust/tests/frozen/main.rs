@@ -1,4 +1,4 @@
-//! The frozen cases of `crates/replay`, answered through the crate's functions. `oracle/README.md`
+//! The frozen cases of `crates/export_replay`, answered through the crate's functions. `oracle/README.md`
 //! has the table of the functions.
 
 mod cases;
@@ -18,7 +18,7 @@ const INNER: [u8; 7] = [33, 35, 36, 40, 41, 42, 43];
 
 #[test]
 fn every_case_has_its_answer() {
-    let folder = concat!(env!("CARGO_MANIFEST_DIR"), "/../crates/replay");
+    let folder = concat!(env!("CARGO_MANIFEST_DIR"), "/../crates/export_replay");
     let stdin = fs::read(format!("{folder}/stdin")).unwrap();
     let stdout = fs::read_to_string(format!("{folder}/stdout")).unwrap();
     let cases = cases(&stdin);

@@ -11,7 +11,7 @@ use Rattle.wire.specs.Output.{asked}
 use Rattle.wire.specs.declared.Written.the-variants.{To}
 use Rattle.handshake.specs.Value.{handshakeBytes, shortStrings, utf8Strings, entriesAsked}
 use Rattle.handshake.specs.Writes.{built}
-use Rattle.output_ask.specs.Asked.{placed}
+use Rattle.wire_output.specs.Asked.{placed}
 use Rattle.handshake_build.specs.Parts.{configOf, builtSaid, BuildReady}
 use Rattle.handshake_build.specs.PartsLaws.{length-head, length-built, built-placed}
 use Rattle.handshake_build.proofs.ask_build.Statement.{statement}

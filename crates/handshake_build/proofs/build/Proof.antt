@@ -3,7 +3,7 @@ use mathlib.Core.List.{[], _∷_}
 use mathlib.Core.Path.{refl}
 use denote.Ref.{now}
 use borrow.Author.Needs.{needs}
-use Rattle.output_ask.specs.CheckedLaws.{accepted, stored, kept}
+use Rattle.wire_output.specs.CheckedLaws.{accepted, stored, kept}
 use Rattle.handshake.specs.Value.{handshakeBytes, entriesAsked}
 use Rattle.handshake.specs.Writes.{built, builtWritten}
 use Rattle.handshake_build.specs.Parts.{configOf, builtSaid}

@@ -9,7 +9,7 @@ use lib.ListN.{length}
 use borrow.Author.Needs.{needs}
 use Rattle.vlq.specs.VlqLaws.{vlq-ten}
 use Rattle.handshake.specs.Value.{featureBytes}
-use Rattle.feature_write.specs.Features.{modeFeatureOf, sessionFeatureOf}
+use Rattle.handshake_features_write.specs.Features.{modeFeatureOf, sessionFeatureOf}
 use Rattle.handshake_build.specs.Parts.{modeBytes, sessionBytes}
 use Rattle.handshake_build.proofs.build_len.Statement.{statement}
 use Rattle.handshake_build.proofs.build_len.Tie as tie

@@ -10,7 +10,7 @@ use lib.ListN.{length}
 use borrow.Author.Needs.{needs}
 use Rattle.wire.specs.OutputLaws.{length-put, wrote-then, wrote-length}
 use Rattle.handshake.specs.Value.{featureBytes, addressBytes}
-use Rattle.feature_write.specs.Features.{modeFeatureOf, sessionFeatureOf}
+use Rattle.handshake_features_write.specs.Features.{modeFeatureOf, sessionFeatureOf}
 use Rattle.handshake_build.specs.Parts.{headBytes, modeBytes, sessionBytes}
 use Rattle.handshake_build.specs.PartsLaws.{wrote-end, wrote-passed, built-parts, length-built}
 use Rattle.handshake_build.proofs.put_build.Statement.{statement}

@@ -4,7 +4,7 @@ use Rattle.wire.specs.ReaderLaws.{map-got, map-refused, map-value, map-refusal}
 use Rattle.vlq.specs.Answers.{partAnswer}
 use Rattle.wire.specs.Reader.{partOf}
 use Rattle.handshake_read.specs.Parts.{head}
-use Rattle.address_read.specs.Answers.{addressAnswer}
+use Rattle.handshake_address_read.specs.Answers.{addressAnswer}
 use Rattle.handshake_read.specs.Answers.{versionAnswer}
 use borrow.Author.Needs.{needs}
 use Rattle.handshake_read.proofs.read_head.Statement.{statement}

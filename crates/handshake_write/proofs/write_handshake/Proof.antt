@@ -11,7 +11,7 @@ use Rattle.vlq.specs.Vlq.{vlqBytes}
 use Rattle.handshake.specs.Value.{entryBytes, handshakeBytes}
 use Rattle.handshake.specs.Tables.{lent, tablesWhole}
 use Rattle.handshake.specs.Writes.{entryAt, rowAsked, entryWritten, handshakeWritten}
-use Rattle.entry_write.specs.NumbersLaws.{all-bytes}
+use Rattle.handshake_entry_write.specs.NumbersLaws.{all-bytes}
 use Rattle.handshake_write.specs.Behind.{behind}
 use Rattle.handshake_write.specs.BehindLaws.{entry-some, behind-stored, behind-refused}
 use Rattle.handshake_write.proofs.write_handshake.Statement.{statement}

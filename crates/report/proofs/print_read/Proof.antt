@@ -8,8 +8,8 @@ use lib.ListN.{length, take}
 use lib.Seq.{take-all, length-take-le}
 use borrow.Author.Needs.{needs}
 use Rattle.wire.specs.Numbers.{lt-or-ge}
-use Rattle.input_read.specs.declared.Input.{Input}
-use Rattle.input_read.specs.declared.Input.the-variants.{Bytes, Failed}
+use Rattle.report_input_read.specs.declared.Input.{Input}
+use Rattle.report_input_read.specs.declared.Input.the-variants.{Bytes, Failed}
 use Rattle.report.specs.Report.{sessionText, inputText}
 use Rattle.report.proofs.print_read.Statement.{statement}
 use Rattle.report.proofs.print_read.Tie as tie

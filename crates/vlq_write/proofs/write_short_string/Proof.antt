@@ -6,7 +6,7 @@ use borrow.Author.Tests.{leb-true}
 use lib.ListN.{length}
 use Rattle.vlq.specs.ShortString.{shortStringBytes}
 use Rattle.vlq_write.specs.Asked.{shortStringAsked}
-use Rattle.output_ask.specs.CheckedLaws.{accepted, stored, kept}
+use Rattle.wire_output.specs.CheckedLaws.{accepted, stored, kept}
 use Rattle.vlq_write.proofs.write_short_string.Statement.{statement}
 use Rattle.vlq_write.proofs.write_short_string.Tie as tie
 

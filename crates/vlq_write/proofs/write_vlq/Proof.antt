@@ -15,7 +15,7 @@ use Rattle.wire.specs.OutputLaws.{written-to}
 use Rattle.wire.specs.StandingLaws.{after-to}
 use Rattle.vlq.specs.Vlq.{vlqBytes}
 use Rattle.vlq.specs.VlqLaws.{vlq-ten}
-use Rattle.output_ask.specs.CheckedLaws.{accepted, stored, kept}
+use Rattle.wire_output.specs.CheckedLaws.{accepted, stored, kept}
 use Rattle.vlq_write.proofs.write_vlq.Statement.{statement}
 use Rattle.vlq_write.proofs.write_vlq.Tie as tie
 

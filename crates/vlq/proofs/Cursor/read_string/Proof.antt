@@ -9,7 +9,7 @@ use Rattle.vlq.proofs.Cursor.read_string.Statement.{statement}
 use Rattle.vlq.proofs.Cursor.read_string.Tie as tie
 use Rattle.vlq.proofs.Cursor.read_string.Reads as reads
 use Rattle.vlq.proofs.Cursor.read_string.Lts as lts
-use Rattle.utf8.proofs.is_utf8.Reads as is-utf8-reads
+use Rattle.vlq_utf8.proofs.is_utf8.Reads as is-utf8-reads
 
 returns : tie.Need-returns
 returns c = let a = c .before .before .args in sym (string-outside (a .n) (now (a .s)) (a .self .at) (c .if1 .taken))

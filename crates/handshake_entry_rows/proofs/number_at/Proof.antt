@@ -1,0 +1,13 @@
+-- `handshake_entry_rows::number_at` meets its contract: outside the table `getD` gives 0.
+use mathlib.Core.Path.{sym}
+use denote.Ref.{now}
+use lib.ListN.{List·getD-eq-default}
+use borrow.Author.Needs.{needs}
+use Rattle.handshake_entry_rows.proofs.number_at.Statement.{statement}
+use Rattle.handshake_entry_rows.proofs.number_at.Tie as tie
+
+returns-2 : tie.Need-returns-2
+returns-2 c = sym (List·getD-eq-default (now (c .before .args .t)) 0 (c .if1 .left))
+
+pub number-at-spec : {M : Type 1} → statement M
+number-at-spec = tie.close (tie.spec (λ c. search needs) (λ c. search needs) (λ c. search needs) returns-2)

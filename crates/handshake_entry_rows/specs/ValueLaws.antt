@@ -1,0 +1,41 @@
+-- A row that is in its table is read as it stands there. The value of a row: known by the feature table and the buffer alone, with as many features
+-- as the row says.
+use Prim.Native.Nat.{ℕ, _/_, _<_}
+use mathlib.Core.List.{List, []}
+use mathlib.Core.Path.{_≡_, refl, ap, _∙_}
+use lib.Dec.{leb}
+use lib.ListN.{length, length-map}
+use borrow.Author.Tests.{lt-ltb}
+use Rattle.handshake.specs.declared.EntryRow.{EntryRow}
+use Rattle.handshake.specs.Value.{shortStrings, utf8Strings, fewFeatures}
+use Rattle.handshake.specs.Tables.{Lent, lent, entryRow, featureRow, ownRows, featureOf, entryOf, entryInside}
+use Rattle.handshake.specs.RowsLaws.{length-rows}
+use Rattle.handshake_entry_rows.specs.Row.{rowOrZeros}
+
+pub row-there : (t : List ℕ) (k : ℕ) → k < length t / 12 → rowOrZeros t k ≡ entryRow t k
+unfolding rowOrZeros
+row-there t k h = rw (lt-ltb k (length t / 12) h)
+
+pub own-entry : (l : Lent) (r : EntryRow) → entryOf (lent [] (l .features) (l .buffer)) r ≡ entryOf l r
+unfolding entryOf
+own-entry l r = refl
+
+pub own-inside : (l : Lent) (r : EntryRow) → entryInside (lent [] (l .features) (l .buffer)) r ≡ entryInside l r
+unfolding entryInside
+own-inside l r = refl
+
+pub length-features : (l : Lent) (r : EntryRow) → length (entryOf l r .features) ≡ r .count
+unfolding entryOf
+length-features l r = length-map (ownRows l r) (featureOf (l .buffer)) ∙ length-rows (featureRow (l .features)) (r .first) (r .count)
+
+pub own-short : (l : Lent) (r : EntryRow) → shortStrings (entryOf (lent [] [] (l .buffer)) r) ≡ shortStrings (entryOf l r)
+unfolding shortStrings entryOf
+own-short l r = refl
+
+pub own-utf8 : (l : Lent) (r : EntryRow) → utf8Strings (entryOf (lent [] [] (l .buffer)) r) ≡ utf8Strings (entryOf l r)
+unfolding utf8Strings entryOf
+own-utf8 l r = refl
+
+pub few-count : (l : Lent) (r : EntryRow) → fewFeatures (entryOf l r) ≡ leb (r .count) 255
+unfolding fewFeatures
+few-count l r = ap (λ (n : ℕ). leb n 255) (length-features l r)

@@ -1,0 +1,193 @@
+-- Laws of the writer of Peers: what is said by sizes is what `messageWritten` says, and what is known once it accepted.
+use Prim.Native.Nat.{ℕ, _+_, _-_, _/_, _≤_, _<_, min}
+use native.Mathlib.Omega.{arith}
+use mathlib.Core.Bool.{Bool, true, false, true≢false}
+use mathlib.Core.List.{List, [], _∷_, _++_, flatMap}
+use mathlib.Core.Logic.{⊎-elim}
+use mathlib.Core.Path.{_≡_, refl, sym, ap, _∙_}
+use lib.Dec.{leb}
+use lib.ListN.{length, take, drop, length-append, length-map}
+use borrow.Author.Tests.{le-leb, lt-leb, leb-true}
+use Rattle.wire.specs.Bytes.{every}
+use Rattle.wire.specs.BytesLaws.{and-true}
+use Rattle.wire.specs.Numbers.{lt-or-ge}
+use Rattle.wire.specs.declared.Written.{Written}
+use Rattle.wire.specs.declared.Written.the-variants.{To}
+use Rattle.wire.specs.Output.{put, ask, asked, written, outputAfter, Wrote}
+use Rattle.wire.specs.OutputLaws.{Accepted, length-put, wrote-checked, written-accepted}
+use Rattle.wire.specs.StandingLaws.{after-put, put-behind}
+use Rattle.vlq.specs.Vlq.{limit, vlqBytes}
+use Rattle.vlq.specs.VlqLaws.{vlq-pos}
+use Rattle.types.specs.declared.Network.{Network}
+use Rattle.frame.specs.Frame.{frameBytes}
+use Rattle.frame_write.specs.Asked.{frameLength, frameWrittenFor}
+use Rattle.frame_write.specs.FrameWriteLaws.{length-frame, frameLength-body, closed}
+use Rattle.handshake.specs.Value.{entryBytes, shortStrings, utf8Strings, fewFeatures, lengthsWithin, entriesAsked}
+use Rattle.handshake.specs.Tables.{Lent, entryRow, entryRows, entryOf, entriesOf, tablesWhole, entryInside}
+use Rattle.handshake.specs.RowsLaws.{length-rows}
+use Rattle.wire_output.specs.Asked.{placed}
+use Rattle.wire_output.specs.CheckedLaws.{kept-unaccepted}
+use Rattle.handshake_entry_ask.specs.Asked.{entriesSaid}
+use Rattle.handshake_entry_write.specs.Rows.{rowsAsked, rowsWritten}
+use Rattle.messages.specs.Value as Values
+use Rattle.messages.specs.Value.{codeOf, bodyBytes, payloadsWithin, countWithin, codeFree, messageAsked}
+use Rattle.messages.specs.Writes.{writePeers, valueOf, messageWhole, messageInside, messageWritten}
+use Rattle.messages_peers_write.specs.Asked.{peersBytes, countSaid, peersSaid, peersStart}
+
+-- ---- lengths
+
+pub length-entries : (l : Lent) → length (entriesOf l) ≡ length (l .entries) / 12
+unfolding entriesOf
+length-entries l = length-map (entryRows l) (entryOf l) ∙ length-rows (entryRow (l .entries)) 0 (length (l .entries) / 12)
+
+-- the count and the entries
+pub peers-parts : (l : Lent) → peersBytes l ≡ vlqBytes (length (l .entries) / 12) ++ flatMap entryBytes (entriesOf l)
+unfolding bodyBytes
+peers-parts l = rw (length-entries l)
+
+pub length-peers : (l : Lent) → length (peersBytes l) ≡ length (vlqBytes (length (l .entries) / 12)) + length (flatMap entryBytes (entriesOf l))
+length-peers l = ap length (peers-parts l) ∙ length-append (vlqBytes (length (l .entries) / 12)) (flatMap entryBytes (entriesOf l))
+
+-- ---- what is said
+
+-- the questions after those of the entries
+abbrev rest : ℕ → ℕ → ℕ → ℕ → ℕ → Written
+rest cap count len at n =
+    asked
+    (ask 10 (leb count cap)
+    ∷ ask 7 (leb (length (vlqBytes count) + n) limit)
+    ∷ ask 14 (leb (at + frameLength (length (vlqBytes count) + n)) len)
+    ∷ [])
+    (To (at + frameLength (length (vlqBytes count) + n)))
+
+-- 7 is answered "no" of limit + 1 bytes as of any more
+rest-most : (cap count len at n : ℕ) → rest cap count len at (min n (limit + 1)) ≡ rest cap count len at n
+unfolding asked
+rest-most cap count len at n =
+    ⊎-elim
+    (λ (h : n < limit + 1). let e : min n (limit + 1) ≡ n = omega arith in rw e)
+    (λ (h : limit + 1 ≤ n).
+    let e : min n (limit + 1) ≡ limit + 1 = omega arith in
+    let v = vlq-pos count in
+    rw (e, lt-leb (length (vlqBytes count) + (limit + 1)) limit (omega (arith, v)), lt-leb (length (vlqBytes count) + n) limit (omega (arith, v))))
+    (lt-or-ge n (limit + 1))
+
+in-order : (cap count len at n : ℕ) (a b c d e f : Bool)
+    → peersSaid cap count len at (asked (ask 16 a ∷ ask 12 b ∷ ask 13 c ∷ ask 4 d ∷ ask 15 e ∷ ask 3 f ∷ []) (To n))
+    ≡ asked (ask 16 a ∷ ask 12 (leb at len) ∷ ask 12 b ∷ ask 13 c ∷ ask 4 d ∷ ask 15 e ∷ ask 3 f ∷ []) (rest cap count len at n)
+unfolding peersSaid countSaid placed asked
+in-order cap count len at n false b c d e f = refl
+in-order cap count len at n true false c d e f = refl
+in-order cap count len at n true true false d e f = refl
+in-order cap count len at n true true true false e f = refl
+in-order cap count len at n true true true true false f = refl
+in-order cap count len at n true true true true true false = refl
+in-order cap count len at n true true true true true true = refl
+
+asked-most : (cap count len at n : ℕ) (a b c d e f : Bool)
+    → peersSaid cap count len at (asked (ask 16 a ∷ ask 12 b ∷ ask 13 c ∷ ask 4 d ∷ ask 15 e ∷ ask 3 f ∷ []) (To (min n (limit + 1))))
+    ≡ asked (ask 16 a ∷ ask 12 (leb at len) ∷ ask 12 b ∷ ask 13 c ∷ ask 4 d ∷ ask 15 e ∷ ask 3 f ∷ []) (rest cap count len at n)
+asked-most cap count len at n a b c d e f =
+    in-order cap count len at (min n (limit + 1)) a b c d e f
+    ∙ ap (asked (ask 16 a ∷ ask 12 (leb at len) ∷ ask 12 b ∷ ask 13 c ∷ ask 4 d ∷ ask 15 e ∷ ask 3 f ∷ [])) (rest-most cap count len at n)
+
+pub said-peers : (network : Network) (cap : ℕ) (l : Lent) (out : List ℕ) (at : ℕ)
+    → peersSaid cap (length (l .entries) / 12) (length out) at (entriesSaid l) ≡ messageWritten network cap (writePeers l) out at
+unfolding entriesSaid entriesAsked messageWritten written asked messageWhole messageInside messageAsked valueOf Values.entriesOf payloadsWithin countWithin codeFree codeOf
+said-peers network cap l out at =
+    asked-most cap (length (l .entries) / 12) (length out) at (length (flatMap entryBytes (entriesOf l))) (tablesWhole l) (every (entryInside l) (entryRows l))
+    (every shortStrings (entriesOf l)) (every utf8Strings (entriesOf l)) (every fewFeatures (entriesOf l)) (every lengthsWithin (entriesOf l))
+    ∙ rw (length-frame network 2 (peersBytes l), length-peers l, length-entries l)
+
+-- ---- where the frame starts
+
+pub start-room : (cap count len at : ℕ) → peersStart cap count len at ≡ true → at + (13 + length (vlqBytes count)) ≤ len
+unfolding peersStart
+start-room cap count len at start = leb-true (at + (13 + length (vlqBytes count))) len (and-true (leb (at + (13 + length (vlqBytes count))) len) (leb count cap) start .0)
+
+-- it does: the writer says what is said of the entries where they stand
+pub rows-peers : (network : Network) (cap : ℕ) (l : Lent) (out : List ℕ) (at : ℕ) → peersStart cap (length (l .entries) / 12) (length out) at ≡ true
+    → let v = length (vlqBytes (length (l .entries) / 12)) in rowsWritten l v out (at + 13 + v) ≡ messageWritten network cap (writePeers l) out at
+unfolding peersStart rowsWritten entriesAsked messageWritten written asked messageWhole messageInside messageAsked valueOf Values.entriesOf payloadsWithin countWithin codeFree codeOf
+rows-peers network cap l out at start =
+    let count = length (l .entries) / 12 in
+    let v = length (vlqBytes count) in
+    let n = length (flatMap entryBytes (entriesOf l)) in
+    let h = and-true (leb (at + (13 + v)) (length out)) (leb count cap) start in
+    let room = leb-true (at + (13 + v)) (length out) (h .0) in
+    let end : at + (13 + (v + n)) ≡ at + 13 + v + n = omega arith in
+    rw (
+      le-leb (at + 13 + v) (length out) (omega arith),
+      le-leb at (length out) (omega arith),
+      length-frame network 2 (peersBytes l),
+      length-peers l,
+      length-entries l,
+      h .1,
+      frameLength-body (v + n) (omega (arith, vlq-pos count)),
+      end,
+    )
+
+-- it does not: the writer refuses, and the output is as it was
+pub not-started : (network : Network) (cap : ℕ) (l : Lent) (out : List ℕ) (at : ℕ) (bs : List ℕ) (r : Written) → r ≡ messageWritten network cap (writePeers l) out at
+    → peersStart cap (length (l .entries) / 12) (length out) at ≡ false → out ≡ outputAfter r out at bs
+unfolding peersStart messageWritten messageWhole messageInside messageAsked valueOf codeOf Values.entriesOf entriesAsked countWithin
+not-started network cap l out at bs r says start =
+    kept-unaccepted r out at bs (λ (e : ℕ) (p : r ≡ To e).
+    let count = length (l .entries) / 12 in
+    let v = length (vlqBytes count) in
+    let n = length (flatMap entryBytes (entriesOf l)) in
+    let h = written-accepted _ _ out at _ e (sym says ∙ p) in
+    let within : leb count cap ≡ true = rw (length-entries l) at (h .rest .1 .1 .1 .1 .1 .1 .0) in
+    let long = frameLength-body (v + n) (omega (arith, vlq-pos count)) in
+    let room : at + (13 + v) ≤ length out = omega (arith, h .room, length-frame network 2 (peersBytes l), ap frameLength (length-peers l), long) in
+    let z : true ≡ false = rw (le-leb (at + (13 + v)) (length out) room, within) at start in
+    true≢false z)
+
+-- ---- what was stored
+
+-- the entries were stored where they stand in the frame
+module _ (network : Network) (l : Lent) (out : List ℕ) (at : ℕ) {r : Written} {e : ℕ} {one : List ℕ}
+    (says : r ≡ rowsWritten l (length (vlqBytes (length (l .entries) / 12))) out (at + 13 + length (vlqBytes (length (l .entries) / 12))))
+    (left : one ≡ outputAfter r out (at + 13 + length (vlqBytes (length (l .entries) / 12))) (flatMap entryBytes (entriesOf l))) (p : r ≡ To e)
+  where
+    abbrev count : List ℕ
+    count = vlqBytes (length (l .entries) / 12)
+
+    abbrev rows : List ℕ
+    rows = flatMap entryBytes (entriesOf l)
+
+    yes : Accepted (ask 16 (tablesWhole l) ∷ []) (rowsAsked l (length count)) out (at + 13 + length count) rows e
+    unfolding rowsWritten
+    yes = written-accepted _ _ out (at + 13 + length count) rows e (sym says ∙ p)
+
+    pub body-end : e ≡ at + 13 + length (peersBytes l)
+    body-end = omega (arith, yes .end, length-peers l)
+
+    small : length (peersBytes l) ≤ limit
+    unfolding entriesAsked
+    small = omega (arith, leb-true (length count + length rows) limit (yes .rest .1 .1 .1 .1 .1 .0), length-peers l)
+
+    frame-room : at + frameLength (length (peersBytes l)) ≤ length out
+    frame-room = omega (arith, yes .room, length-peers l, frameLength-body (length (peersBytes l)) (omega (arith, length-peers l, vlq-pos (length (l .entries) / 12))))
+
+    -- then the count before them
+    module _ {s : Written} {two : List ℕ} (says2 : s ≡ written [] [] one (at + 13) count) (left2 : two ≡ outputAfter s one (at + 13) count) where
+      body-stored : Wrote out (at + 13) (peersBytes l) (at + 13 + length (peersBytes l)) two
+      unfolding outputAfter
+      body-stored =
+          let q : one ≡ put out (at + 13 + length count) rows = rw p at left in
+          let long : length one ≡ length out = ap length q ∙ length-put out (at + 13 + length count) rows in
+          let w = wrote-checked [] [] one (at + 13) count says2 left2 tt tt (omega (arith, yes .room)) in
+          record {
+            end = refl;
+            bytes = w .bytes ∙ ap (λ (o : List ℕ). put o (at + 13) count) q ∙ put-behind out (at + 13) count rows (at + 13 + length count) refl (yes .room) ∙ ap (put out (at + 13)) (sym (peers-parts l));
+          }
+
+      -- and then the frame was closed around both
+      pub frame-stored : {t : Written} {last : List ℕ} → t ≡ frameWrittenFor (length two) at (e - (at + 13))
+          → last ≡ outputAfter t two at (frameBytes network 2 (take (e - (at + 13)) (drop (at + 13) two)))
+          → last ≡ outputAfter (To e) out at (frameBytes network 2 (peersBytes l))
+      frame-stored says3 left3 =
+          let z : e - (at + 13) ≡ length (peersBytes l) = omega (arith, body-end) in
+          after-put out at (frameBytes network 2 (peersBytes l)) refl
+          (closed network 2 out at (peersBytes l) frame-room body-stored small (rw z at says3) (rw z at left3))
