@@ -8,6 +8,9 @@ use lib.Dec.{leb}
 use lib.ListN.{length, set}
 use Rattle.wire.specs.declared.Written.{Written}
 use Rattle.wire.specs.declared.Written.the-variants.{To, Refused}
+use Rattle.wire.specs.declared.Size.{Size}
+use Rattle.wire.specs.declared.Size.the-variants.{Bytes}
+use Rattle.wire.specs.declared.Size.the-variants.{Refused as Unsized}
 
 -- out with the bytes bs stored one after the other from the place at
 unfoldable pub put : List ℕ → ℕ → List ℕ → List ℕ
@@ -26,6 +29,11 @@ ask n b = record { number = n; holds = b }
 unfoldable pub asked : List Question → Written → Written
 asked [] w = w
 asked (q ∷ qs) w = cond (q .holds) (asked qs w) (Refused (q .number))
+
+-- the number of the first question answered "no"; otherwise n bytes
+unfoldable pub sized : List Question → ℕ → Size
+sized [] n = Bytes n
+sized (q ∷ qs) n = cond (q .holds) (sized qs n) (Unsized (q .number))
 
 -- what a writer of the bytes bs says: `before` and `after` are its questions before and after that of the place, and room is asked last
 unfoldable pub written : List Question → List Question → List ℕ → ℕ → List ℕ → Written

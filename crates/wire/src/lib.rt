@@ -1,4 +1,5 @@
-// What readers and writers of the wire format have in common: a part of the bytes, what a writer says, and a comparison.
+// What readers and writers of the wire format have in common: a part of the bytes, what a writer says, what is said of a
+// value before it has a place, and a comparison.
 ghost use mathlib.Core.Path.{_≡_};
 ghost use lib.ListN.{take, drop};
 ghost use Rattle.wire.specs.Bytes.{sameBytes};
@@ -15,6 +16,12 @@ pub struct Part {
 // What a writer says: the place after the bytes that it wrote, or the refusal number.
 pub enum Written {
     To(usize),
+    Refused(u8),
+}
+
+// What is said of a value before it has a place: how many bytes it is written as, or the refusal number.
+pub enum Size {
+    Bytes(usize),
     Refused(u8),
 }
 

@@ -6,6 +6,9 @@ use lib.Dec.{eqb, leb}
 use Rattle.wire.specs.Output.{Question, ask, asked}
 use Rattle.wire.specs.declared.Written.{Written}
 use Rattle.wire.specs.declared.Written.the-variants.{To, Refused}
+use Rattle.wire.specs.declared.Size.{Size}
+use Rattle.wire.specs.declared.Size.the-variants.{Bytes}
+use Rattle.wire.specs.declared.Size.the-variants.{Refused as Unsized}
 
 -- what a writer of any n bytes says of an output of any len bytes: `written`, which depends on nothing else of them
 abbrev pub writtenFor : List Question → List Question → ℕ → ℕ → ℕ → Written
@@ -15,3 +18,8 @@ writtenFor before after len at n = asked (before ++ (ask 12 (leb at len) ∷ (af
 unfoldable pub placed : ℕ → ℕ → Written → Written
 placed len at (To n) = cond (leb at len) (cond (leb (at + n) len) (To (at + n)) (Refused 14)) (Refused 12)
 placed len at (Refused m) = cond (eqb m 16) (Refused 16) (cond (leb at len) (Refused m) (Refused 12))
+
+-- what a writer says of an output of len bytes, once the size is known: the question of the place comes after 16, that of the room last
+unfoldable pub outputAsked : ℕ → ℕ → Size → Written
+outputAsked len at (Bytes n) = writtenFor [] [] len at n
+outputAsked len at (Unsized m) = cond (eqb m 16) (Refused 16) (cond (leb at len) (Refused m) (Refused 12))

@@ -7,7 +7,11 @@ use lib.Dec.{eqb, leb}
 use Rattle.wire.specs.Output.{Question, ask, asked}
 use Rattle.wire.specs.declared.Written.{Written}
 use Rattle.wire.specs.declared.Written.the-variants.{To, Refused}
-use Rattle.wire_output.specs.Asked.{writtenFor, placed}
+use Rattle.wire.specs.Output.{sized}
+use Rattle.wire.specs.declared.Size.{Size}
+use Rattle.wire.specs.declared.Size.the-variants.{Bytes}
+use Rattle.wire.specs.declared.Size.the-variants.{Refused as Unsized}
+use Rattle.wire_output.specs.Asked.{writtenFor, placed, outputAsked}
 
 -- no question has the number 16
 unfoldable pub Without16 : List Question → Type 0
@@ -34,3 +38,20 @@ module _ (len at n : ℕ) where
   unfolding asked placed
   placed-asked true qs h = placed-rest qs h
   placed-asked false qs h = refl
+
+  output-rest : (qs : List Question) → Without16 qs → outputAsked len at (sized qs n) ≡ writtenFor [] qs len at n
+  unfolding Without16 outputAsked sized asked
+  output-rest [] h = refl
+  output-rest (q ∷ qs) h = go (q .holds) (sized qs n) (asked (qs ++ (ask 14 (leb (at + n) len) ∷ [])) (To (at + n))) (output-rest qs (h .1))
+    where
+      go : (t : Bool) (w : Size) (rest : Written) → outputAsked len at w ≡ cond (leb at len) rest (Refused 12)
+          → outputAsked len at (cond t w (Unsized (q .number))) ≡ cond (leb at len) (cond t rest (Refused (q .number))) (Refused 12)
+      go true w rest e = e
+      go false w rest e = rw (h .0)
+
+  -- with the output's questions, those of a value are the writer's
+  pub output-sized : (whole : Bool) (qs : List Question) → Without16 qs
+      → outputAsked len at (sized (ask 16 whole ∷ qs) n) ≡ writtenFor (ask 16 whole ∷ []) qs len at n
+  unfolding sized asked outputAsked
+  output-sized true qs h = output-rest qs h
+  output-sized false qs h = refl

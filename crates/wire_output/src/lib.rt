@@ -3,7 +3,8 @@ ghost use mathlib.Core.Path.{_≡_};
 ghost use mathlib.Core.List.{[]};
 ghost use Prim.Native.Nat.{_+_};
 ghost use lib.Dec.{leb};
-ghost use Rattle.wire_output.specs.Asked.{writtenFor, placed};
+ghost use Rattle.wire_output.specs.Asked.{writtenFor, placed, outputAsked};
+use wire::Size;
 use wire::Written;
 
 // Has an output of len bytes n bytes from the place on?
@@ -36,6 +37,24 @@ pub fn ask_place(len: usize, at: usize, said: Written) -> Written
     match said {
         Written::To(n) => ask_room(len, at, n),
         Written::Refused(m) => {
+            if m == 16 {
+                return Written::Refused(16);
+            }
+            if len < at {
+                return Written::Refused(12);
+            }
+            Written::Refused(m)
+        }
+    }
+}
+
+// Adds the place's question (after 16) and the room's (last) to what is said of a value.
+pub fn ask_output(len: usize, at: usize, size: Size) -> Written
+    ensures { λ r. ⌜ r ≡ outputAsked len at size ⌝ }
+{
+    match size {
+        Size::Bytes(n) => ask_room(len, at, n),
+        Size::Refused(m) => {
             if m == 16 {
                 return Written::Refused(16);
             }
