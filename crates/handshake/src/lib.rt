@@ -8,6 +8,22 @@ pub const FEATURE_SESSION: u8 = 3;
 
 pub const FEATURE_REST_API: u8 = 4;
 
+// The address length byte L of the two kinds of address: four more than the address has bytes.
+pub const IPV4_LENGTH: u8 = 8;
+
+pub const IPV6_LENGTH: u8 = 20;
+
+// A port is below this; one that is read is kept modulo it.
+pub const PORT_COUNT: u64 = 65_536;
+
+// The most features of an entry, whose count is a byte.
+pub const MAX_FEATURES: usize = 255;
+
+// How many numbers the rows below have in a table.
+pub const FEATURE_ROW_SIZE: usize = 3;
+
+pub const ENTRY_ROW_SIZE: usize = 12;
+
 // A writer gets lists as tables of u32 beside a lent buffer; these are the rows.
 
 // A feature: its id, and the place and length of its body in the buffer.

@@ -20,6 +20,9 @@ pub const MAX_INV_OBJECTS: usize = 400;
 // The bytes of an id.
 pub const ID_SIZE: usize = 32;
 
+// How many numbers a payload's row has in a table.
+pub const PAYLOAD_ROW_SIZE: usize = 3;
+
 // A writer gets payloads as a table of u32 beside a lent buffer; this is a row.
 
 // A payload: the place of its id, and the place and length of its bytes in the buffer.

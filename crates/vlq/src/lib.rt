@@ -6,6 +6,9 @@ ghost use Rattle.vlq.specs.ShortString.{string, shortString};
 ghost use Rattle.vlq.specs.Answers.{byteAnswer, vlqAnswer, partAnswer};
 use wire::Part;
 
+// The most bytes of a short string, whose length is a byte.
+pub const MAX_SHORT_STRING: usize = 255;
+
 // A place in the bytes that are read. Each step hands the moved cursor back.
 pub struct Cursor {
     pub at: usize,
