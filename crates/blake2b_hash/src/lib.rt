@@ -6,6 +6,7 @@ ghost use Rattle.blake2b.specs.Blake2b.{dd, blake2b256, check as Blake2b·check
 ghost use Rattle.blake2b_hash.specs.Running.{started, stepped, absorbed, ended, finished};
 
 mod bytes;
+pub mod lent;
 
 // A running hash: the state h, and the low and high word of the offset counter t.
 pub struct Hash {

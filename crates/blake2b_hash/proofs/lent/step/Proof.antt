@@ -1,4 +1,4 @@
--- `blake2b_lent::step` meets its contract: a walk of its MIR, by hand. The borrow is opened, the hash is copied out and goes to `Hash::step`, with the
+-- `blake2b_hash::lent::step` meets its contract: a walk of its MIR, by hand. The borrow is opened, the hash is copied out and goes to `Hash::step`, with the
 -- block, and the borrow is closed at what `Hash::step` returns. All that the proof knows of `Hash::step` is that it meets its contract.
 -- Assumes nothing.
 use mathlib.Core.Path.{_≡_, refl}
@@ -39,18 +39,18 @@ use denote.Triple.Statement.{Contract, Triple}
 use denote.Triple.Table.{entered, cited}
 use denote.Triple.Walked.{says, Stays, stay-ref, stay-none-ref, walkOf, goes-none-ref, goes-ref, Walks, ends-at, walked, walk-meets}
 use denote.Exit.{yes}
 use Rattle.blake2b_hash.specs.Running.{stepped}
 use Rattle.blake2b_hash.specs.declared.Hash.{Hash}
 use Rattle.blake2b_hash.proofs.Hash as T
 use Rattle.blake2b_hash.proofs.Hash.Laws as T′
 use Rattle.blake2b_hash.proofs.Hash.step as by-value
 use Rattle.blake2b_hash.proofs.Hash.step.Symbol as by-value-def
 use Rattle.blake2b_hash.proofs.Hash.step.Symbol.{name as #blake2b-hash·Hash·step}
 use Rattle.blake2b_hash.proofs.Hash.step.Met as by-value-thm
-use Rattle.blake2b_lent.proofs.step.Key.{name as #blake2b-lent·step}
-use Rattle.blake2b_lent.proofs.step as lent
-use Rattle.blake2b_lent.proofs.step.Statement as stated
-use Rattle.blake2b_lent.proofs.step.Code as code
+use Rattle.blake2b_hash.proofs.lent.step.Key.{name as #blake2b-hash·lent·step}
+use Rattle.blake2b_hash.proofs.lent.step as lent
+use Rattle.blake2b_hash.proofs.lent.step.Statement as stated
+use Rattle.blake2b_hash.proofs.lent.step.Code as code
 
 -- the hash's type, and the block's, by itself and as the referent's place in the signature
 abbrev R : RattleType
@@ -158,6 +158,6 @@ pub step-spec : {M : Type 1} → stated.statement M
 unfolding code.routine tablesOf
 step-spec 𝓤 H 𝓜 𝓖 𝓡 =
     entered 𝓤 H (tripleOf 𝓤 H (𝓖 .A) lent.signature (lent.spec 𝓤 H (𝓖 .A) (𝓜 .mem) (𝓡 .run)))
-    (tables 𝓤 H 𝓜 𝓡 code.env .C) (tables 𝓤 H 𝓜 𝓡 code.env .Λ) #blake2b-lent·step code.function (code.unfolded 𝓤 H 𝓜 𝓡)
+    (tables 𝓤 H 𝓜 𝓡 code.env .C) (tables 𝓤 H 𝓜 𝓡 code.env .Λ) #blake2b-hash·lent·step code.function (code.unfolded 𝓤 H 𝓜 𝓡)
     (step-meets 𝓤 H (𝓖 .A) (givenOf 𝓤 H 𝓜 𝓖) (𝓜 .mem) (𝓡 .run) (tablesOf 𝓤 H 𝓜 (tables 𝓤 H 𝓜 𝓡 code.env))
     (cited 𝓤 H (Step 𝓤 H (𝓖 .A) (𝓜 .mem) (𝓡 .run)) 𝓜 𝓡 code.env #blake2b-hash·Hash·step by-value-def.routine code.calls-blake2b-hash·Hash·step (by-value-thm.met 𝓤 H 𝓜 𝓖 𝓡)))

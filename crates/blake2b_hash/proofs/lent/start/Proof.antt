@@ -1,4 +1,4 @@
--- `blake2b_lent::start` meets its contract: a walk of its MIR, by hand. The borrow is opened, `Hash::start` is called, and the borrow is closed at what it returns.
+-- `blake2b_hash::lent::start` meets its contract: a walk of its MIR, by hand. The borrow is opened, `Hash::start` is called, and the borrow is closed at what it returns.
 -- All that the proof knows of `Hash::start` is that it meets its contract.
 -- Assumes nothing.
 use mathlib.Core.Path.{_≡_, refl}
@@ -35,18 +35,18 @@ use denote.Triple.Spec.{Meets, tripleOf}
 use denote.Triple.Statement.{Contract, Triple}
 use denote.Triple.Table.{entered, cited}
 use denote.Triple.Walked.{says, Stays, stay-ref, walkOf, goes-ref, Walks, ends-at, walked, walk-meets}
 use Rattle.blake2b_hash.specs.Running.{started}
 use Rattle.blake2b_hash.specs.declared.Hash.{Hash}
 use Rattle.blake2b_hash.proofs.Hash as T
 use Rattle.blake2b_hash.proofs.Hash.Laws as T′
 use Rattle.blake2b_hash.proofs.Hash.start as by-value
 use Rattle.blake2b_hash.proofs.Hash.start.Symbol as by-value-def
 use Rattle.blake2b_hash.proofs.Hash.start.Symbol.{name as #blake2b-hash·Hash·start}
 use Rattle.blake2b_hash.proofs.Hash.start.Met as by-value-thm
-use Rattle.blake2b_lent.proofs.start.Key.{name as #blake2b-lent·start}
-use Rattle.blake2b_lent.proofs.start as lent
-use Rattle.blake2b_lent.proofs.start.Statement as stated
-use Rattle.blake2b_lent.proofs.start.Code as code
+use Rattle.blake2b_hash.proofs.lent.start.Key.{name as #blake2b-hash·lent·start}
+use Rattle.blake2b_hash.proofs.lent.start as lent
+use Rattle.blake2b_hash.proofs.lent.start.Statement as stated
+use Rattle.blake2b_hash.proofs.lent.start.Code as code
 
 -- the hash's type
 abbrev R : RattleType
@@ -129,6 +129,6 @@ pub start-spec : {M : Type 1} → stated.statement M
 unfolding code.routine tablesOf
 start-spec 𝓤 H 𝓜 𝓖 𝓡 =
     entered 𝓤 H (tripleOf 𝓤 H (𝓖 .A) lent.signature (lent.spec 𝓤 H (𝓖 .A) (𝓜 .mem) (𝓡 .run)))
-    (tables 𝓤 H 𝓜 𝓡 code.env .C) (tables 𝓤 H 𝓜 𝓡 code.env .Λ) #blake2b-lent·start code.function (code.unfolded 𝓤 H 𝓜 𝓡)
+    (tables 𝓤 H 𝓜 𝓡 code.env .C) (tables 𝓤 H 𝓜 𝓡 code.env .Λ) #blake2b-hash·lent·start code.function (code.unfolded 𝓤 H 𝓜 𝓡)
     (start-meets 𝓤 H (𝓖 .A) (givenOf 𝓤 H 𝓜 𝓖) (𝓜 .mem) (𝓡 .run) (tablesOf 𝓤 H 𝓜 (tables 𝓤 H 𝓜 𝓡 code.env))
     (cited 𝓤 H (Start 𝓤 H (𝓖 .A) (𝓜 .mem) (𝓡 .run)) 𝓜 𝓡 code.env #blake2b-hash·Hash·start by-value-def.routine code.calls-blake2b-hash·Hash·start (by-value-thm.met 𝓤 H 𝓜 𝓖 𝓡)))

@@ -1,4 +1,4 @@
--- `blake2b_lent::finish` meets its contract: a walk of its MIR, by hand. The borrow is opened, the hash is copied out and goes to `Hash::finish`, with the
+-- `blake2b_hash::lent::finish` meets its contract: a walk of its MIR, by hand. The borrow is opened, the hash is copied out and goes to `Hash::finish`, with the
 -- rest, and the borrow is closed at what `Hash::start` returns. All that the proof knows of the two is that they meet their contracts.
 -- Assumes nothing.
 use mathlib.Core.Path.{_≡_, refl}
@@ -42,22 +42,22 @@ use denote.Triple.Statement.{Contract, Triple}
 use denote.Triple.Table.{entered, cited}
 use denote.Triple.Walked.{says, Stays, stay-ref, stay-none-slice, walkOf, goes-none-slice, goes-ref, Walks, ends-at, walked, walk-meets}
 use denote.Exit.{yes}
 use Rattle.blake2b_hash.specs.Running.{started, finished}
 use Rattle.blake2b_hash.specs.declared.Hash.{Hash}
 use Rattle.blake2b_hash.proofs.Hash as T
 use Rattle.blake2b_hash.proofs.Hash.Laws as T′
 use Rattle.blake2b_hash.proofs.Hash.finish as finish
 use Rattle.blake2b_hash.proofs.Hash.finish.Symbol as finish-def
 use Rattle.blake2b_hash.proofs.Hash.finish.Symbol.{name as #blake2b-hash·Hash·finish}
 use Rattle.blake2b_hash.proofs.Hash.finish.Met as finish-thm
 use Rattle.blake2b_hash.proofs.Hash.start as start
 use Rattle.blake2b_hash.proofs.Hash.start.Symbol as start-def
 use Rattle.blake2b_hash.proofs.Hash.start.Symbol.{name as #blake2b-hash·Hash·start}
 use Rattle.blake2b_hash.proofs.Hash.start.Met as start-thm
-use Rattle.blake2b_lent.proofs.finish.Key.{name as #blake2b-lent·finish}
-use Rattle.blake2b_lent.proofs.finish as lent
-use Rattle.blake2b_lent.proofs.finish.Statement as stated
-use Rattle.blake2b_lent.proofs.finish.Code as code
+use Rattle.blake2b_hash.proofs.lent.finish.Key.{name as #blake2b-hash·lent·finish}
+use Rattle.blake2b_hash.proofs.lent.finish as lent
+use Rattle.blake2b_hash.proofs.lent.finish.Statement as stated
+use Rattle.blake2b_hash.proofs.lent.finish.Code as code
 
 -- the hash's type, and the digest's
 abbrev R : RattleType
@@ -187,7 +187,7 @@ pub finish-spec : {M : Type 1} → stated.statement M
 unfolding code.routine tablesOf
 finish-spec 𝓤 H 𝓜 𝓖 𝓡 =
     entered 𝓤 H (tripleOf 𝓤 H (𝓖 .A) lent.signature (lent.spec 𝓤 H (𝓖 .A) (𝓜 .mem) (𝓡 .run)))
-    (tables 𝓤 H 𝓜 𝓡 code.env .C) (tables 𝓤 H 𝓜 𝓡 code.env .Λ) #blake2b-lent·finish code.function (code.unfolded 𝓤 H 𝓜 𝓡)
+    (tables 𝓤 H 𝓜 𝓡 code.env .C) (tables 𝓤 H 𝓜 𝓡 code.env .Λ) #blake2b-hash·lent·finish code.function (code.unfolded 𝓤 H 𝓜 𝓡)
     (finish-meets 𝓤 H (𝓖 .A) (givenOf 𝓤 H 𝓜 𝓖) (𝓜 .mem) (𝓡 .run) (tablesOf 𝓤 H 𝓜 (tables 𝓤 H 𝓜 𝓡 code.env))
     (cited 𝓤 H (Finish 𝓤 H (𝓖 .A) (𝓜 .mem) (𝓡 .run)) 𝓜 𝓡 code.env #blake2b-hash·Hash·finish finish-def.routine code.calls-blake2b-hash·Hash·finish (finish-thm.met 𝓤 H 𝓜 𝓖 𝓡))
     (cited 𝓤 H (Start 𝓤 H (𝓖 .A) (𝓜 .mem) (𝓡 .run)) 𝓜 𝓡 code.env #blake2b-hash·Hash·start start-def.routine code.calls-blake2b-hash·Hash·start (start-thm.met 𝓤 H 𝓜 𝓖 𝓡)))

@@ -1,7 +1,7 @@
 // The running hash, lent and advanced where it is: each function takes the hash by `&mut`, and leaves the work to the by-value one.
 ghost use mathlib.Core.Path.{_≡_};
 ghost use Rattle.blake2b_hash.specs.Running.{started, stepped, finished};
-use blake2b_hash::Hash;
+use crate::Hash;
 
 // The lent hash becomes the one before the first block.
 pub fn start(hash: &mut Hash)
