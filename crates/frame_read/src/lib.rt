@@ -1,8 +1,7 @@
 // Frames, read from lent bytes (transport/frame.rs).
 ghost use mathlib.Core.Path.{_≡_};
-ghost use Prim.Native.Nat.{_+_, _≤_, _<_};
-ghost use lib.ListN.{length, take, drop};
-ghost use Rattle.wire.specs.Bytes.{bigEndian};
+ghost use Prim.Native.Nat.{_≤_};
+ghost use lib.ListN.{length};
 ghost use Rattle.wire.specs.Reader.{mapAnswer};
 ghost use Rattle.vlq.specs.Vlq.{limit};
 ghost use Rattle.frame.specs.Frame.{body, frame};
@@ -11,6 +10,7 @@ use frame::MIN_HEADER_SIZE;
 use types::Network;
 use types::StreamPlace;
 use wire::MAX_BODY_SIZE;
+use wire_numbers::big_endian_4_at;
 
 const CHECK_SIZE: usize = 4;
 
@@ -52,7 +52,7 @@ pub fn decode(s: &[u8], network: Network, at: StreamPlace) -> FrameRead
     if !wire::stands_at(s, start, magic) {
         return FrameRead::Refused(6);
     }
-    let n = number(s, start + 5);
+    let n = big_endian_4_at(s, start + 5) as usize;
     if MAX_BODY_SIZE < n {
         return FrameRead::Refused(7);
     }
@@ -86,22 +86,4 @@ fn read_body(s: &[u8], at: usize, n: usize) -> BodyRead
         len: n,
     };
     BodyRead::Value(body, StreamPlace(end))
-}
-
-// The number of the four bytes at a place, the highest first.
-fn number(s: &[u8], at: usize) -> usize
-    requires { ⌜ at + 4 ≤ length (now s) ⌝ }
-    ensures { λ r. ⌜ r ≡ bigEndian (take 4 (drop at (now (s .entry)))) ⌝ }
-{
-    let a = wide(s[at]);
-    let b = wide(s[at + 1]);
-    let c = wide(s[at + 2]);
-    let d = wide(s[at + 3]);
-    ((a * 256 + b) * 256 + c) * 256 + d
-}
-
-fn wide(x: u8) -> usize
-    ensures { λ r. ⌜ (r ≡ x) × (r < 256) ⌝ }
-{
-    x as usize
 }

@@ -3,7 +3,6 @@
 ghost use mathlib.Core.Path.{_≡_};
 ghost use Prim.Native.Nat.{_+_, _≤_};
 ghost use lib.ListN.{length, take, drop};
-ghost use Rattle.wire.specs.Bytes.{bigEndianBytes};
 ghost use Rattle.wire.specs.Output.{outputAfter, Wrote};
 ghost use Rattle.vlq.specs.Vlq.{limit};
 ghost use Rattle.frame.specs.Frame.{frameBytes};
@@ -15,6 +14,7 @@ use frame::MIN_HEADER_SIZE;
 use types::Network;
 use wire::MAX_BODY_SIZE;
 use wire::Written;
+use wire_numbers::big_endian_bytes_4;
 
 // A frame with this code and body.
 pub fn encode(out: &mut [u8], at: usize, network: Network, code: u8, body: &[u8]) -> Written
@@ -103,7 +103,7 @@ fn put_head(out: &mut [u8], at: usize, network: Network, code: u8, n: usize) -> 
     let magic = network.magic();
     let end = put_four(out, at, magic);
     out[end] = code;
-    put_four(out, end + 1, big_endian(n))
+    put_four(out, end + 1, big_endian_bytes_4(n as u32))
 }
 
 // Stores four bytes and gives the place after them.
@@ -116,16 +116,4 @@ fn put_four(out: &mut [u8], at: usize, four: [u8; 4]) -> usize
     out[at + 2] = four[2];
     out[at + 3] = four[3];
     at + 4
-}
-
-// The four bytes of n, the highest first.
-fn big_endian(n: usize) -> [u8; 4]
-    requires { ⌜ n ≤ limit ⌝ }
-    ensures { λ r. ⌜ r ≡ bigEndianBytes 4 n ⌝ }
-{
-    let a = (n / 16_777_216) as u8;
-    let b = (n / 65_536 % 256) as u8;
-    let c = (n / 256 % 256) as u8;
-    let d = (n % 256) as u8;
-    [a, b, c, d]
 }

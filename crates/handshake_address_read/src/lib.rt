@@ -1,8 +1,7 @@
 // Addresses of entries, read from lent bytes (transport/handshake.rs).
 ghost use mathlib.Core.Path.{_≡_};
-ghost use Prim.Native.Nat.{_+_, _-_, _^_, _≤_, _<_};
+ghost use Prim.Native.Nat.{_+_, _-_, _≤_};
 ghost use lib.ListN.{length, take, drop};
-ghost use Rattle.wire.specs.Bytes.{bigEndian};
 ghost use Rattle.handshake.specs.Entry.{addressOf, address};
 ghost use Rattle.handshake_address_read.specs.DeclaredAddress.{declaredAddress};
 ghost use Rattle.handshake_address_read.specs.Answers.{addressAnswer};
@@ -11,6 +10,8 @@ use vlq::ByteRead;
 use vlq::Cursor;
 use vlq::PartRead;
 use vlq::VlqRead;
+use wire_numbers::big_endian_4_at;
+use wire_numbers::big_endian_8_at;
 
 pub enum AddressRead {
     Value(Address, Cursor),
@@ -65,30 +66,10 @@ fn address_of(s: &[u8], l: u8, at: usize, port: u16) -> Address
     ensures { λ r. ⌜ r ≡ addressOf l (take (l - 4) (drop at (now (s .entry)))) port ⌝ }
 {
     if l == 8 {
-        return Address::V4(number(s, at, 4) as u32, port);
+        return Address::V4(big_endian_4_at(s, at), port);
     }
     if l == 20 {
-        return Address::V6(number(s, at, 8), number(s, at + 8, 8), port);
+        return Address::V6(big_endian_8_at(s, at), big_endian_8_at(s, at + 8), port);
     }
     Address::None
-}
-
-// The number of n bytes, the highest first.
-fn number(s: &[u8], at: usize, n: usize) -> u64
-    requires { ⌜ (n ≤ 8) × (at + n ≤ length (now s)) ⌝ }
-    ensures { λ r. ⌜ (r ≡ bigEndian (take n (drop at (now (s .entry))))) × (r < 256 ^ n) ⌝ }
-{
-    let mut x: u64 = 0;
-    let mut i: usize = 0;
-    while i < n {
-        x = x * 256 + wide(s[at + i]);
-        i += 1;
-    }
-    x
-}
-
-fn wide(x: u8) -> u64
-    ensures { λ r. ⌜ r ≡ x ⌝ }
-{
-    x as u64
 }

@@ -18,7 +18,8 @@ use Rattle.walk.specs.Walk as Walk
 use Rattle.walk.specs.Walk.{clean, stopped, stepTo, onward, step, walkIn, walk, reading}
 use Rattle.walk.specs.Session.{messageFields, peersVerdict, noVerdict, messageVerdict, handshakeItem, messageItem, frameItem, handshakeAt, messageAt, sessionReading}
 use Rattle.report_input_read.specs.declared.Input.the-variants.{Bytes, Failed}
-use Rattle.report_text.specs.Lines.{ascii, decimalIn, decimal, field, span, versionText, handshakeLine, messageText, messageLine, peersLine, stopLine, endLine}
+use Rattle.wire_text_write.specs.Text.{ascii, decimalIn, decimal}
+use Rattle.report_text.specs.Lines.{field, span, versionText, handshakeLine, messageText, messageLine, peersLine, stopLine, endLine}
 use Rattle.report_lines.specs.StepLines.{stopText}
 use Rattle.report.specs.Report.{contentLine, endingLine, reportText, sessionText, inputText}
 

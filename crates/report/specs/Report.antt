@@ -15,7 +15,8 @@ use Rattle.walk_read.specs.declared.StepRead.{StepRead}
 use Rattle.walk_read.specs.declared.StepRead.the-variants as StepReads
 use Rattle.report_input_read.specs.declared.Input.{Input}
 use Rattle.report_input_read.specs.declared.Input.the-variants.{Bytes, Failed}
-use Rattle.report_text.specs.Lines.{ascii, handshakeLine, messageLine, peersLine, stopLine, endLine}
+use Rattle.wire_text_write.specs.Text.{ascii}
+use Rattle.report_text.specs.Lines.{handshakeLine, messageLine, peersLine, stopLine, endLine}
 use Rattle.report_lines.specs.StepLines.{stopText, lineOf}
 use Rattle.report.specs.declared.Next.{Next}
 

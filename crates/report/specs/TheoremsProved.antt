@@ -12,7 +12,8 @@ use Rattle.walk.specs.Walk as Walk
 use Rattle.walk.specs.Walk.{Item, Ending, clean, stopped, unended}
 use Rattle.walk.specs.Session.{Fields, handshakeFields, messageFields, Verdict, peerVerdict, peersVerdict, noVerdict, Content, sessionReading}
 use Rattle.walk_read.specs.Steps.{streamPlace}
-use Rattle.report_text.specs.Lines.{ascii, field, span, handshakeLine, messageText, messageLine, peersLine, stopLine, endLine}
+use Rattle.wire_text_write.specs.Text.{ascii}
+use Rattle.report_text.specs.Lines.{field, span, handshakeLine, messageText, messageLine, peersLine, stopLine, endLine}
 use Rattle.report_lines.specs.StepLines.{stopText}
 use Rattle.report.specs.Report.{contentLine, itemLine, endingLine, reportText, sessionText, lineAt, nextAt, Block, blockAt}
 use Rattle.report.specs.Theorems as Theorems

@@ -1,7 +1,8 @@
--- Document 01, "At the edges": a line of each kind, the longest numbers, and numbers with one digit more than their neighbour.
-use mathlib.Core.List.{[], _∷_, map}
+-- Document 01, "At the edges": a line of each kind.
+use mathlib.Core.List.{[], _∷_}
 use mathlib.Core.Path.{_≡_, refl}
-use Rattle.report_text.specs.Lines.{ascii, decimalIn, decimal, field, span, versionText, handshakeLine, messageText, messageLine, peersLine, stopHandshake, stopFrame, stopBody, stopLine, endLine}
+use Rattle.wire_text_write.specs.Text.{ascii, decimalIn, decimal}
+use Rattle.report_text.specs.Lines.{field, span, versionText, handshakeLine, messageText, messageLine, peersLine, stopHandshake, stopFrame, stopBody, stopLine, endLine}
 
 pub all-lines : handshakeLine 0 11 6 0 1 0
     ∷ handshakeLine 0 65536 255 99 100 2
@@ -23,8 +24,3 @@ pub all-lines : handshakeLine 0 11 6 0 1 0
     ∷ []
 unfolding decimalIn decimal field span versionText handshakeLine messageText messageLine peersLine stopLine endLine
 all-lines = refl
-
-pub all-numbers : map decimal (0 ∷ 9 ∷ 10 ∷ 99 ∷ 100 ∷ 18446744073709551615 ∷ [])
-    ≡ ascii "0" ∷ ascii "9" ∷ ascii "10" ∷ ascii "99" ∷ ascii "100" ∷ ascii "18446744073709551615" ∷ []
-unfolding decimalIn decimal
-all-numbers = refl

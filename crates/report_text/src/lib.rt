@@ -131,12 +131,10 @@ fn field(line: &mut [u8], at: usize, text: &[u8], n: u64) -> usize
     ensures { λ r. ⌜ Wrote (now (line .entry)) at (Lines·field (now (text .entry)) n) r (now (line .exit)) ⌝ }
     ensures { λ r. ⌜ r ≤ at + length (now (text .entry)) + 20 ⌝ }
 {
-    let mut digits = [0u8; 20];
-    let k = io::decimal(n, &mut digits);
     let next = at + text.len();
     wire_part_write::write_part(line, at, text);
-    wire_part_write::write_part(line, next, &digits[..k]);
-    next + k
+    wire_text_write::write_decimal(line, next, n);
+    next + wire_text_write::decimal_len(n)
 }
 
 fn newline(line: &mut [u8], at: usize) -> usize

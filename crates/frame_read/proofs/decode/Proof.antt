@@ -32,17 +32,20 @@ returns-3 c =
     let m = sym (c .before .stands-at .ensures ∙ ap (sameBytes (take 4 (drop (a .at .0) (now (a .s))))) (c .before .before .magic .ensures)) ∙ not-true _ (c .if3 .taken) in
     sym (frame-other (a .network) (now (a .s)) (a .at .0) (omega arith) m)
 
-add-number : tie.Need-add-number
-add-number c = search needs
+add-big-endian-4-at : tie.Need-add-big-endian-4-at
+add-big-endian-4-at c = search needs
 
-number-requires : tie.Need-number-requires
-number-requires c κs = search needs
+big-endian-4-at-requires : tie.Need-big-endian-4-at-requires
+big-endian-4-at-requires c κs = search needs
+
+cast-n : tie.Need-cast-n
+cast-n c = search needs
 
 returns-4 : tie.Need-returns-4
 returns-4 c =
     let a = c .before .before .before .before .before .before .before .before .args in
     let m = sym (c .before .before .before .stands-at .ensures ∙ ap (sameBytes (take 4 (drop (a .at .0) (now (a .s))))) (c .before .before .before .before .magic .ensures)) ∙ not-false _ (c .before .before .if3 .left) in
-    sym (frame-long (a .network) (now (a .s)) (a .at .0) _ (omega arith) m (c .before .number .ensures) (c .if4 .taken))
+    sym (frame-long (a .network) (now (a .s)) (a .at .0) _ (omega arith) m (c .before .big-endian-4-at .ensures) (c .if4 .taken))
 
 add-code : tie.Need-add-code
 add-code c = search needs
@@ -67,14 +70,14 @@ returns-5 c =
     let a = c .before .before .before .before .before .before .before .before .before .before .before .before .before .args in
     let m = sym (c .before .before .before .before .before .before .before .before .stands-at .ensures ∙ ap (sameBytes (take 4 (drop (a .at .0) (now (a .s))))) (c .before .before .before .before .before .before .before .before .before .magic .ensures)) ∙ not-false _ (c .before .before .before .before .before .before .before .if3 .left) in
     let b = (sym (c .before .before .before .read-body .ensures) ∙ ap bodyAnswer (c .before .body .given .1)) in
-    sym (frame-got (a .network) (now (a .s)) (a .at .0) _ (omega arith) m (c .before .before .before .before .before .before .number .ensures) (omega arith) _ _ b)
+    sym (frame-got (a .network) (now (a .s)) (a .at .0) _ (omega arith) m (c .before .before .before .before .before .before .big-endian-4-at .ensures) (omega arith) _ _ b)
 
 returns-6 : tie.Need-returns-6
 returns-6 c =
     let a = c .before .before .before .before .before .before .before .before .before .before .before .before .before .args in
     let m = sym (c .before .before .before .before .before .before .before .before .stands-at .ensures ∙ ap (sameBytes (take 4 (drop (a .at .0) (now (a .s))))) (c .before .before .before .before .before .before .before .before .before .magic .ensures)) ∙ not-false _ (c .before .before .before .before .before .before .before .if3 .left) in
     let b = (sym (c .before .before .before .read-body .ensures) ∙ ap bodyAnswer (c .before .m .given .1)) in
-    sym (frame-refused (a .network) (now (a .s)) (a .at .0) _ (omega arith) m (c .before .before .before .before .before .before .number .ensures) (omega arith) _ b)
+    sym (frame-refused (a .network) (now (a .s)) (a .at .0) _ (omega arith) m (c .before .before .before .before .before .before .big-endian-4-at .ensures) (omega arith) _ b)
 
 pub decode-spec : {M : Type 1} → statement M
 decode-spec =
@@ -86,8 +89,9 @@ decode-spec =
     magic-requires
     stands-at-requires
     returns-3
-    add-number
-    number-requires
+    add-big-endian-4-at
+    big-endian-4-at-requires
+    cast-n
     returns-4
     add-code
     shared-slice-read-code

@@ -23,7 +23,7 @@ returns : tie.Need-returns
 returns c =
     let m = c .before .before .before .before .before .before .before .before .before in
     let a = m .before .before .args in
-    head-stored (a .network) (a .code) (a .n) (m .magic .ensures) (c .before .before .before .big-endian .ensures)
+    head-stored (a .network) (a .code) (a .n) (m .magic .ensures) (c .before .before .before .big-endian-bytes-4 .ensures)
     (c .before .before .before .before .before .before .before .put-four .ensures) (c .before .before .put-four2 .ensures)
 
 pub put-head-spec : {M : Type 1} → statement M
@@ -32,6 +32,7 @@ put-head-spec =
     (tie.spec
     (λ c κs. search needs)
     (λ c κs. search needs)
+    (λ c. search needs)
     (λ c. search needs)
     (λ c. search needs)
     (λ c κs. search needs)

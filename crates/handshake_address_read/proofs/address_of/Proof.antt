@@ -7,12 +7,12 @@ use Rattle.handshake_address_read.proofs.address_of.Statement.{statemen
 use Rattle.handshake_address_read.proofs.address_of.Tie as tie
 
 returns : tie.Need-returns
-returns c = let a = c .before .before .before .args in address-v4 (a .l) (now (a .s)) (a .at) (a .port) (c .number .result) (c .before .if1 .taken) (c .number .ensures .0)
+returns c = let a = c .before .before .before .args in address-v4 (a .l) (now (a .s)) (a .at) (a .port) (c .big-endian-4-at .result) (c .before .if1 .taken) (c .big-endian-4-at .ensures)
 
 returns-2 : tie.Need-returns-2
 returns-2 c =
     let a = c .before .before .before .before .before .args in
-    address-v6 (a .l) (now (a .s)) (a .at) (a .port) (c .before .number2 .result) (c .number3 .result) (c .before .before .if2 .taken) (omega arith) (c .before .number2 .ensures .0) (c .number3 .ensures .0)
+    address-v6 (a .l) (now (a .s)) (a .at) (a .port) (c .before .big-endian-8-at .result) (c .big-endian-8-at2 .result) (c .before .before .if2 .taken) (omega arith) (c .before .big-endian-8-at .ensures) (c .big-endian-8-at2 .ensures)
 
 returns-3 : tie.Need-returns-3
 returns-3 c = let a = c .before .before .before .args in address-none (a .l) (now (a .s)) (a .at) (a .port) (c .before .if1 .left) (c .if2 .left)
@@ -22,7 +22,6 @@ address-of-spec =
     tie.close
     (tie.spec
     (λ c κs. search needs)
-    (λ c. search needs)
     returns
     (λ c κs. search needs)
     (λ c. search needs)

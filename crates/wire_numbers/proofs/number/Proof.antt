@@ -1,9 +1,9 @@
--- `handshake_address_read::number` meets its contract. The loop's invariant and what follows from it stand in `NumberLoop`.
-use Prim.Native.Nat.{_-_, _+_}
+-- `wire_numbers::number` meets its contract. The loop's invariant and what follows from it stand in `NumberLoop`.
+use Prim.Native.Nat.{_-_}
 use native.Mathlib.Omega.{arith}
-use Rattle.handshake_address_read.proofs.NumberLoop.{NumberSoFar, number-start, number-fits, number-again, number-end}
-use Rattle.handshake_address_read.proofs.number.Statement.{statement}
-use Rattle.handshake_address_read.proofs.number.Tie as tie
+use Rattle.wire_numbers.proofs.NumberLoop.{NumberSoFar, number-start, number-fits, number-again, number-end}
+use Rattle.wire_numbers.proofs.number.Statement.{statement}
+use Rattle.wire_numbers.proofs.number.Tie as tie
 
 abbrev Inv-loop : tie.InvT-loop
 Inv-loop s at n x₀ i₀ x i = NumberSoFar s at n x i
@@ -24,7 +24,7 @@ shared-slice-read-wide : tie.Need-shared-slice-read-wide Inv-loop μ-loop
 shared-slice-read-wide c = omega (arith, c .before .before .loop .inv .inside)
 
 add-x : tie.Need-add-x Inv-loop μ-loop
-add-x c = omega (arith, number-fits (c .before .before .before .loop .inv) (c .wide .result) (omega arith) (omega (arith, c .wide .ensures, c .before .shared-slice-known2 .given (c .before .before .before .before .before .args .at + c .before .before .before .loop .i))))
+add-x c = omega (arith, number-fits (c .before .before .before .loop .inv) (c .wide .result) (omega arith) (c .wide .ensures .1))
 
 add-i : tie.Need-add-i Inv-loop μ-loop
 add-i c = omega arith
@@ -33,7 +33,7 @@ loop-less : tie.Need-loop-less Inv-loop μ-loop
 loop-less c = omega arith
 
 loop-again : tie.Need-loop-again Inv-loop μ-loop
-loop-again c = number-again (c .before .before .before .loop .inv) (c .wide .result) (c .wide .ensures) (omega (arith, c .wide .ensures, c .before .shared-slice-known2 .given (c .before .before .before .before .before .args .at + c .before .before .before .loop .i))) (omega arith)
+loop-again c = number-again (c .before .before .before .loop .inv) (c .wide .result) (c .wide .ensures .0) (c .wide .ensures .1) (omega arith)
 
 returns : tie.Need-returns Inv-loop μ-loop
 returns c = number-end (c .before .loop .inv) (omega arith)

@@ -1,0 +1,2 @@
+pub mod NumberLoop
+pub mod WidthLaws
