@@ -8,18 +8,20 @@ ghost use Rattle.wire.specs.Bytes.{bigEndianBytes};
 ghost use Rattle.wire.specs.Output.{put, written, outputAfter, Wrote};
 ghost use Rattle.vlq.specs.Vlq.{vlqBytes};
 ghost use Rattle.handshake.specs.Value.{addressBytes};
+use handshake::IPV4_LENGTH;
+use handshake::IPV6_LENGTH;
 use types::Address;
 use vlq_write::vlq_len;
 use vlq_write::write_vlq;
 use wire::Written;
-use wire_output::ask_place;
+use wire_output::ask_room;
 
 // Flag 0, or flag 1, L, the address's bytes and the port.
 pub fn write_address(out: &mut [u8], at: usize, address: Address) -> Written
     ensures { λ r. ⌜ r ≡ written [] [] (now (out .entry)) at (addressBytes address) ⌝ }
     ensures { λ r. ⌜ now (out .exit) ≡ outputAfter r (now (out .entry)) at (addressBytes address) ⌝ }
 {
-    let answer = ask_place(out.len(), at, Written::To(address_len(address)));
+    let answer = ask_room(out.len(), at, address_len(address));
     if let Written::To(_) = answer {
         put_address(out, at, address);
     }
@@ -55,7 +57,7 @@ fn put_v4(out: &mut [u8], at: usize, ip: u32, port: u16)
     ensures { λ _. ⌜ now (out .exit) ≡ put (now (out .entry)) at (1 ∷ 8 ∷ (bigEndianBytes 4 ip ++ vlqBytes port)) ⌝ }
 {
     out[at] = 1;
-    out[at + 1] = 8;
+    out[at + 1] = IPV4_LENGTH;
     let a = put_four(out, at + 2, ip);
     write_vlq(out, a, port as u64);
 }
@@ -65,7 +67,7 @@ fn put_v6(out: &mut [u8], at: usize, high: u64, low: u64, port: u16)
     ensures { λ _. ⌜ now (out .exit) ≡ put (now (out .entry)) at (1 ∷ 20 ∷ (bigEndianBytes 8 high ++ (bigEndianBytes 8 low ++ vlqBytes port))) ⌝ }
 {
     out[at] = 1;
-    out[at + 1] = 20;
+    out[at + 1] = IPV6_LENGTH;
     let a = put_eight(out, at + 2, high);
     let b = put_eight(out, a, low);
     write_vlq(out, b, port as u64);
