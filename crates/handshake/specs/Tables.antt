@@ -6,7 +6,7 @@ use mathlib.Core.List.{List, [], _∷_, map}
 use lib.Dec.{eqb, leb, ltb}
 use lib.ListN.{length, getD, take, drop}
 use Rattle.wire.specs.Bytes.{every}
-use Rattle.handshake.specs.Entry.{addressOf}
+use Rattle.handshake.specs.Entry.{ipv4Length, ipv6Length, portCount, addressOf}
 use Rattle.handshake.specs.Value.{FeatureValue, EntryValue}
 use Rattle.handshake.specs.declared.FeatureRow.{FeatureRow}
 use Rattle.handshake.specs.declared.EntryRow.{EntryRow}
@@ -95,8 +95,8 @@ entryNumbers r =
     ltb (r .major) 256
     && (ltb (r .minor) 256
     && (ltb (r .patch) 256
-    && (ltb (r .port) 65536
-    && (eqb (r .addrlen) 0 || (eqb (r .addrlen) 8 || eqb (r .addrlen) 20)))))
+    && (ltb (r .port) portCount
+    && (eqb (r .addrlen) 0 || (eqb (r .addrlen) ipv4Length || eqb (r .addrlen) ipv6Length)))))
 
 -- over every row of both tables, written or not
 unfoldable pub tablesWhole : Lent → Bool

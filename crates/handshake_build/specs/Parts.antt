@@ -8,7 +8,7 @@ use Rattle.wire.specs.Output.{sized}
 use Rattle.wire.specs.declared.Size.{Size}
 use Rattle.vlq_utf8.specs.Utf8.{utf8}
 use Rattle.vlq.specs.Vlq.{vlqBytes}
-use Rattle.vlq.specs.ShortString.{shortStringBytes}
+use Rattle.vlq.specs.ShortString.{maxShortString, shortStringBytes}
 use Rattle.handshake.specs.Value.{featureBytes, versionBytes, handshakeBytes, entriesAsked}
 use Rattle.handshake.specs.Writes.{built}
 use Rattle.handshake.specs.Writes as writes
@@ -40,8 +40,8 @@ builtSize c = sized (entriesAsked (built c .entry ∷ [])) (length (handshakeByt
 
 -- agent and name that are accepted
 pub record BuildReady (agent name : List ℕ) : Type 0 where
-  pub shortagent : length agent ≤ 255
-  pub shortname : length name ≤ 255
+  pub shortagent : length agent ≤ maxShortString
+  pub shortname : length name ≤ maxShortString
   pub utfagent : utf8 agent ≡ true
   pub utfname : utf8 name ≡ true
 

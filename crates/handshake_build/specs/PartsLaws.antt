@@ -17,7 +17,7 @@ use Rattle.wire.specs.declared.Written.{Written}
 use Rattle.wire.specs.declared.Size.the-variants.{Bytes}
 use Rattle.vlq_utf8.specs.Utf8.{utf8}
 use Rattle.vlq.specs.Vlq.{limit, vlqBytes}
-use Rattle.vlq.specs.ShortString.{shortStringBytes}
+use Rattle.vlq.specs.ShortString.{maxShortString, shortStringBytes}
 use Rattle.handshake.specs.Value.{FeatureValue, featureBytes, versionBytes, addressBytes, entryBytes, handshakeBytes, shortStrings, utf8Strings, fewFeatures, lengthsWithin, entriesAsked}
 use Rattle.handshake.specs.Writes.{modeFeature, sessionFeature, built}
 use Rattle.wire_output.specs.Asked.{writtenFor, outputAsked}
@@ -91,8 +91,8 @@ module _ (c : Config) (agent name : List ℕ) where
       let m = modeFeature (configOf c agent name) in
       let s = sessionFeature (configOf c agent name) in
       rw (
-        le-leb (length agent) 255 (ready .shortagent),
-        le-leb (length name) 255 (ready .shortname),
+        le-leb (length agent) maxShortString (ready .shortagent),
+        le-leb (length name) maxShortString (ready .shortname),
         ready .utfagent,
         ready .utfname,
         le-leb (length (m .body)) limit (omega (arith, mode, body-within m)),
@@ -108,6 +108,6 @@ module _ (c : Config) (agent name : List ℕ) where
   pub build-ready : AllHold (entriesAsked (built (configOf c agent name) .entry ∷ [])) → BuildReady agent name
   unfolding entriesAsked every shortStrings utf8Strings built
   build-ready holds =
-      let s = and-true (leb (length agent) 255) (leb (length name) 255) (and-true (leb (length agent) 255 && leb (length name) 255) true (holds .0) .0) in
+      let s = and-true (leb (length agent) maxShortString) (leb (length name) maxShortString) (and-true (leb (length agent) maxShortString && leb (length name) maxShortString) true (holds .0) .0) in
       let u = and-true (utf8 agent) (utf8 name) (and-true (utf8 agent && utf8 name) true (holds .1 .0) .0) in
-      record { shortagent = leb-true (length agent) 255 (s .0); shortname = leb-true (length name) 255 (s .1); utfagent = u .0; utfname = u .1 }
+      record { shortagent = leb-true (length agent) maxShortString (s .0); shortname = leb-true (length name) maxShortString (s .1); utfagent = u .0; utfname = u .1 }

@@ -6,6 +6,7 @@ ghost use Prim.Native.Nat.{_+_, _^_, _≤_, _<_};
 ghost use lib.ListN.{length};
 ghost use Rattle.wire.specs.Output.{put, outputAfter, Wrote};
 ghost use Rattle.vlq.specs.Vlq.{vlqBytes};
+ghost use Rattle.vlq.specs.ShortString.{maxShortString};
 ghost use Rattle.handshake.specs.Value.{AddressTyped, addressBytes, versionBytes, handshakeBytes};
 ghost use Rattle.handshake.specs.Writes.{built, builtWritten};
 ghost use Rattle.handshake_build.specs.Parts.{configOf, builtSize, BuildReady, headBytes, modeBytes, sessionBytes};
@@ -77,7 +78,7 @@ fn build_size(config: Config, agent: &[u8], name: &[u8]) -> Size
 
 // How many bytes a handshake with strings of a and n bytes has.
 fn build_len(config: Config, a: usize, n: usize) -> usize
-    requires { ⌜ (a ≤ 255) × (n ≤ 255) ⌝ }
+    requires { ⌜ (a ≤ maxShortString) × (n ≤ maxShortString) ⌝ }
     ensures { λ r. ⌜ (r ≡ length (vlqBytes (config .timestamp)) + (5 + a + n) + length (addressBytes (config .address)) + (1 + length (modeBytes config) + length (sessionBytes config))) × (length (modeBytes config) ≤ 16) × (length (sessionBytes config) ≤ 16) ⌝ }
 {
     let address = config.address;

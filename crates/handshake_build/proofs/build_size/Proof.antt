@@ -8,6 +8,7 @@ use borrow.Author.Tests.{le-leb, lt-leb, not-true, not-false}
 use Rattle.wire.specs.Bytes.{every}
 use Rattle.wire.specs.Output.{sized}
 use Rattle.wire.specs.declared.Size.the-variants.{Bytes}
+use Rattle.vlq.specs.ShortString.{maxShortString}
 use Rattle.handshake.specs.Value.{handshakeBytes, shortStrings, utf8Strings, entriesAsked}
 use Rattle.handshake.specs.Writes.{built}
 use Rattle.handshake_build.specs.Parts.{configOf, builtSize, BuildReady}
@@ -19,25 +20,25 @@ returns : tie.Need-returns
 unfolding builtSize entriesAsked sized every shortStrings utf8Strings built
 returns c =
     let a = c .before .before .before .args in
-    rw (lt-leb (length (now (a .agent))) 255 (c .if1 .taken))
+    rw (lt-leb (length (now (a .agent))) maxShortString (c .if1 .taken))
 
 returns-2 : tie.Need-returns-2
 unfolding builtSize entriesAsked sized every shortStrings utf8Strings built
 returns-2 c =
     let a = c .before .before .before .before .args in
-    rw (le-leb (length (now (a .agent))) 255 (c .before .if1 .left), lt-leb (length (now (a .name))) 255 (c .if2 .taken))
+    rw (le-leb (length (now (a .agent))) maxShortString (c .before .if1 .left), lt-leb (length (now (a .name))) maxShortString (c .if2 .taken))
 
 returns-3 : tie.Need-returns-3
 unfolding builtSize entriesAsked sized every shortStrings utf8Strings built
 returns-3 c =
     let a = c .before .before .before .before .before .before .args in
-    rw (le-leb (length (now (a .agent))) 255 (c .before .before .before .if1 .left), le-leb (length (now (a .name))) 255 (c .before .before .if2 .left), sym (c .before .is-utf8 .ensures) ∙ not-true _ (c .if3 .taken))
+    rw (le-leb (length (now (a .agent))) maxShortString (c .before .before .before .if1 .left), le-leb (length (now (a .name))) maxShortString (c .before .before .if2 .left), sym (c .before .is-utf8 .ensures) ∙ not-true _ (c .if3 .taken))
 
 returns-4 : tie.Need-returns-4
 unfolding builtSize entriesAsked sized every shortStrings utf8Strings built
 returns-4 c =
     let a = c .before .before .before .before .before .before .before .before .args in
-    rw (le-leb (length (now (a .agent))) 255 (c .before .before .before .before .before .if1 .left), le-leb (length (now (a .name))) 255 (c .before .before .before .before .if2 .left), sym (c .before .before .before .is-utf8 .ensures) ∙ not-false _ (c .before .before .if3 .left), sym (c .before .is-utf82 .ensures) ∙ not-true _ (c .if4 .taken))
+    rw (le-leb (length (now (a .agent))) maxShortString (c .before .before .before .before .before .if1 .left), le-leb (length (now (a .name))) maxShortString (c .before .before .before .before .if2 .left), sym (c .before .before .before .is-utf8 .ensures) ∙ not-false _ (c .before .before .if3 .left), sym (c .before .is-utf82 .ensures) ∙ not-true _ (c .if4 .taken))
 
 build-len-requires : tie.Need-build-len-requires
 build-len-requires c κs = (c .before .before .before .before .before .if1 .left, c .before .before .before .before .if2 .left)

@@ -9,7 +9,7 @@ use borrow.Author.Needs.{needs}
 use borrow.Author.Tests.{le-leb}
 use Rattle.wire.specs.OutputLaws.{wrote-then, wrote-length}
 use Rattle.vlq.specs.Vlq.{vlqBytes}
-use Rattle.vlq.specs.ShortString.{shortStringBytes}
+use Rattle.vlq.specs.ShortString.{maxShortString, shortStringBytes}
 use Rattle.vlq_write.specs.Asked.{shortStringAsked}
 use Rattle.handshake.specs.Value.{versionBytes}
 use Rattle.handshake_build.specs.Parts.{headBytes}
@@ -46,7 +46,7 @@ put-version-requires c κs =
     let size = length-head (a .config) agent (now (a .name)) in
     let n = v .vlq-len .ensures in
     let w1 = wrote-end [] [] (now (a .out)) (a .at) (vlqBytes (a .config .timestamp)) (a .at + v .vlq-len .result) (w .write-vlq .ensures .0) (w .write-vlq .ensures .1) (omega (arith, n)) tt tt (omega (arith, size)) in
-    let w2 = wrote-end [] (shortStringAsked agent) _ _ (shortStringBytes agent) _ (m .write-short-string .ensures .0) (m .write-short-string .ensures .1) refl tt (le-leb (length agent) 255 (ready .shortagent), (ready .utfagent, tt)) (omega (arith, size, n, wrote-length w1)) in
+    let w2 = wrote-end [] (shortStringAsked agent) _ _ (shortStringBytes agent) _ (m .write-short-string .ensures .0) (m .write-short-string .ensures .1) refl tt (le-leb (length agent) maxShortString (ready .shortagent), (ready .utfagent, tt)) (omega (arith, size, n, wrote-length w1)) in
     omega (arith, size, n, wrote-length w1, wrote-length w2)
 
 add-result : tie.Need-add-result
@@ -83,9 +83,9 @@ returns c =
     let size = length-head (a .config) agent name in
     let n = v .vlq-len .ensures in
     let w1 = wrote-end [] [] (now (a .out)) (a .at) (vlqBytes (a .config .timestamp)) (a .at + v .vlq-len .result) (w .write-vlq .ensures .0) (w .write-vlq .ensures .1) (omega (arith, n)) tt tt (omega (arith, size)) in
-    let w2 = wrote-end [] (shortStringAsked agent) _ _ (shortStringBytes agent) (a .at + v .vlq-len .result + 1 + length agent) (m .write-short-string .ensures .0) (m .write-short-string .ensures .1) (omega arith) tt (le-leb (length agent) 255 (ready .shortagent), (ready .utfagent, tt)) (omega (arith, size, n, wrote-length w1)) in
+    let w2 = wrote-end [] (shortStringAsked agent) _ _ (shortStringBytes agent) (a .at + v .vlq-len .result + 1 + length agent) (m .write-short-string .ensures .0) (m .write-short-string .ensures .1) (omega arith) tt (le-leb (length agent) maxShortString (ready .shortagent), (ready .utfagent, tt)) (omega (arith, size, n, wrote-length w1)) in
     let w3 = p .put-version .ensures in
-    let w4 = wrote-end [] (shortStringAsked name) _ (p .put-version .result) (shortStringBytes name) (p .put-version .result + 1 + length name) (l .write-short-string2 .ensures .0) (l .write-short-string2 .ensures .1) (omega arith) tt (le-leb (length name) 255 (ready .shortname), (ready .utfname, tt)) (omega (arith, size, n, wrote-length w1, wrote-length w2, w3 .end, wrote-length w3)) in
+    let w4 = wrote-end [] (shortStringAsked name) _ (p .put-version .result) (shortStringBytes name) (p .put-version .result + 1 + length name) (l .write-short-string2 .ensures .0) (l .write-short-string2 .ensures .1) (omega arith) tt (le-leb (length name) maxShortString (ready .shortname), (ready .utfname, tt)) (omega (arith, size, n, wrote-length w1, wrote-length w2, w3 .end, wrote-length w3)) in
     wrote-then w1 (wrote-then w2 (wrote-then w3 w4))
 
 pub put-head-spec : {M : Type 1} → statement M
