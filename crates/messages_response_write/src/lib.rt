@@ -12,8 +12,9 @@ ghost use Rattle.vlq.specs.Vlq.{limit, vlqBytes};
 ghost use Rattle.frame.specs.Frame.{frameBytes};
 ghost use Rattle.frame_write.specs.Asked.{frameLength};
 ghost use Rattle.handshake.specs.Tables.{bytesAt};
+ghost use Rattle.messages.specs.Message.{maxInvObjects};
 ghost use Rattle.messages.specs.Value.{payloadBytes};
-ghost use Rattle.messages.specs.Writes.{payloadRow, payloadRows, payloadOf, payloadInside, writeModifierResponse, valueOf, messageBytes, messageWritten};
+ghost use Rattle.messages.specs.Writes.{payloadRowSize, payloadRow, payloadRows, payloadOf, payloadInside, writeModifierResponse, valueOf, messageBytes, messageWritten};
 ghost use Rattle.messages_response_write.specs.Asked.{payloadsOf, rowWithin, responseBytes, responseWrittenFor};
 ghost use Rattle.messages_response_write.specs.ResponseLaws.{rowLength, rowsLength};
 use frame::HEADER_SIZE;
@@ -109,9 +110,9 @@ fn payloads_within(payloads: &[u32]) -> bool
 
 // How many bytes a type byte, a count and the payloads are.
 fn response_len(payloads: &[u32]) -> usize
-    requires { ⌜ length (now payloads) / 3 ≤ 400 ⌝ }
+    requires { ⌜ length (now payloads) / payloadRowSize ≤ maxInvObjects ⌝ }
     requires { ⌜ every rowWithin (payloadRows (now payloads)) ≡ true ⌝ }
-    ensures { λ r. ⌜ r ≡ 1 + length (vlqBytes (length (now (payloads .entry)) / 3)) + rowsLength (payloadRows (now (payloads .entry))) ⌝ }
+    ensures { λ r. ⌜ r ≡ 1 + length (vlqBytes (length (now (payloads .entry)) / payloadRowSize)) + rowsLength (payloadRows (now (payloads .entry))) ⌝ }
 {
     let count = payloads.len() / PAYLOAD_ROW_SIZE;
     1 + vlq_write::vlq_len(count as u64) + rows_len(payloads)
@@ -119,7 +120,7 @@ fn response_len(payloads: &[u32]) -> usize
 
 // How many bytes the payloads are.
 fn rows_len(payloads: &[u32]) -> usize
-    requires { ⌜ length (now payloads) / 3 ≤ 400 ⌝ }
+    requires { ⌜ length (now payloads) / payloadRowSize ≤ maxInvObjects ⌝ }
     requires { ⌜ every rowWithin (payloadRows (now payloads)) ≡ true ⌝ }
     ensures { λ r. ⌜ (r ≡ rowsLength (payloadRows (now (payloads .entry)))) × (r ≤ 6555460000) ⌝ }
 {
@@ -144,7 +145,7 @@ fn row_len(row: PayloadRow) -> usize
 
 // Row k of the table.
 fn payload_at(payloads: &[u32], k: usize) -> PayloadRow
-    requires { ⌜ 3 * k + 3 ≤ length (now payloads) ⌝ }
+    requires { ⌜ payloadRowSize * k + payloadRowSize ≤ length (now payloads) ⌝ }
     ensures { λ r. ⌜ r ≡ payloadRow (now (payloads .entry)) k ⌝ }
 {
     PayloadRow {
