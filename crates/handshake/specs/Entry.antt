@@ -19,11 +19,22 @@ use Rattle.types.specs.declared.Address.the-variants.{None, V4, V6}
 unfoldable pub version : Reader Version
 version = field 1 3 (λ s at. record { major = getD s at 0; minor = getD s (at + 1) 0; patch = getD s (at + 2) 0 })
 
--- the length byte L is 8: IPv4; 20: IPv6; any other: no address
+-- the address length byte L of the two kinds of address
+abbrev pub ipv4Length : ℕ
+ipv4Length = 8
+
+abbrev pub ipv6Length : ℕ
+ipv6Length = 20
+
+-- a port is below this
+abbrev pub portCount : ℕ
+portCount = 65536
+
+-- L is 8: IPv4; 20: IPv6; any other: no address
 unfoldable pub addressOf : ℕ → List ℕ → ℕ → Address
 addressOf l bytes port =
-    cond (eqb l 8) (V4 (bigEndian bytes) port)
-    (cond (eqb l 20) (V6 (bigEndian (take 8 bytes)) (bigEndian (drop 8 bytes)) port)
+    cond (eqb l ipv4Length) (V4 (bigEndian bytes) port)
+    (cond (eqb l ipv6Length) (V6 (bigEndian (take 8 bytes)) (bigEndian (drop 8 bytes)) port)
     None)
 
 -- a length byte L; L - 4 bytes, none if L is below 4; a port VLQ kept modulo 65,536
@@ -32,7 +43,7 @@ address =
     andThen byte (λ l.
     andThen (part (l - 4)) (λ g.
     andThen vlq (λ port.
-    pure (addressOf l (g .bytes) (port % 65536)))))
+    pure (addressOf l (g .bytes) (port % portCount)))))
 
 -- an address if the flag isn't 0
 unfoldable pub addressIf : ℕ → Reader Address

@@ -6,7 +6,7 @@ use mathlib.Core.List.{List, [], _∷_, map}
 use lib.Dec.{eqb, leb, ltb}
 use lib.ListN.{length, getD, take, drop}
 use Rattle.wire.specs.Bytes.{every}
-use Rattle.handshake.specs.Entry.{addressOf}
+use Rattle.handshake.specs.Entry.{ipv4Length, ipv6Length, portCount, addressOf}
 use Rattle.handshake.specs.Value.{FeatureValue, EntryValue}
 use Rattle.handshake.specs.declared.FeatureRow.{FeatureRow}
 use Rattle.handshake.specs.declared.EntryRow.{EntryRow}
@@ -18,26 +18,33 @@ unfoldable pub rows : {A : Type 0} → (ℕ → A) → ℕ → ℕ → List A
 rows f i zero = []
 rows f i (suc n) = f i ∷ rows f (i + 1) n
 
+-- how many numbers a row of the feature table has, and one of the entry table
+abbrev pub featureRowSize : ℕ
+featureRowSize = 3
+
+abbrev pub entryRowSize : ℕ
+entryRowSize = 12
+
 -- a feature's id, place, length
 abbrev pub featureRow : List ℕ → ℕ → FeatureRow
-featureRow t k = record { id = getD t (3 * k) 0; at = getD t (3 * k + 1) 0; len = getD t (3 * k + 2) 0 }
+featureRow t k = record { id = getD t (featureRowSize * k) 0; at = getD t (featureRowSize * k + 1) 0; len = getD t (featureRowSize * k + 2) 0 }
 
 -- an entry's agent place and length, three version numbers, name place and length, address length byte, address place, port, first feature row, row count
 abbrev pub entryRow : List ℕ → ℕ → EntryRow
 entryRow t k =
     record {
-      agentat = getD t (12 * k) 0;
-      agentlen = getD t (12 * k + 1) 0;
-      major = getD t (12 * k + 2) 0;
-      minor = getD t (12 * k + 3) 0;
-      patch = getD t (12 * k + 4) 0;
-      nameat = getD t (12 * k + 5) 0;
-      namelen = getD t (12 * k + 6) 0;
-      addrlen = getD t (12 * k + 7) 0;
-      addrat = getD t (12 * k + 8) 0;
-      port = getD t (12 * k + 9) 0;
-      first = getD t (12 * k + 10) 0;
-      count = getD t (12 * k + 11) 0;
+      agentat = getD t (entryRowSize * k) 0;
+      agentlen = getD t (entryRowSize * k + 1) 0;
+      major = getD t (entryRowSize * k + 2) 0;
+      minor = getD t (entryRowSize * k + 3) 0;
+      patch = getD t (entryRowSize * k + 4) 0;
+      nameat = getD t (entryRowSize * k + 5) 0;
+      namelen = getD t (entryRowSize * k + 6) 0;
+      addrlen = getD t (entryRowSize * k + 7) 0;
+      addrat = getD t (entryRowSize * k + 8) 0;
+      port = getD t (entryRowSize * k + 9) 0;
+      first = getD t (entryRowSize * k + 10) 0;
+      count = getD t (entryRowSize * k + 11) 0;
     }
 
 -- the tables and the buffer of one call
@@ -50,10 +57,10 @@ abbrev pub lent : List ℕ → List ℕ → List ℕ → Lent
 lent entries features buffer = record { entries = entries; features = features; buffer = buffer }
 
 abbrev pub entryRows : Lent → List EntryRow
-entryRows l = rows (entryRow (l .entries)) 0 (length (l .entries) / 12)
+entryRows l = rows (entryRow (l .entries)) 0 (length (l .entries) / entryRowSize)
 
 abbrev pub featureRows : Lent → List FeatureRow
-featureRows l = rows (featureRow (l .features)) 0 (length (l .features) / 3)
+featureRows l = rows (featureRow (l .features)) 0 (length (l .features) / featureRowSize)
 
 -- the feature rows that an entry's row names
 abbrev pub ownRows : Lent → EntryRow → List FeatureRow
@@ -95,14 +102,14 @@ entryNumbers r =
     ltb (r .major) 256
     && (ltb (r .minor) 256
     && (ltb (r .patch) 256
-    && (ltb (r .port) 65536
-    && (eqb (r .addrlen) 0 || (eqb (r .addrlen) 8 || eqb (r .addrlen) 20)))))
+    && (ltb (r .port) portCount
+    && (eqb (r .addrlen) 0 || (eqb (r .addrlen) ipv4Length || eqb (r .addrlen) ipv6Length)))))
 
 -- over every row of both tables, written or not
 unfoldable pub tablesWhole : Lent → Bool
 tablesWhole l =
-    wholeRows 12 (l .entries)
-    && (wholeRows 3 (l .features)
+    wholeRows entryRowSize (l .entries)
+    && (wholeRows featureRowSize (l .features)
     && (every entryNumbers (entryRows l)
     && every featureNumbers (featureRows l)))
 
@@ -119,5 +126,5 @@ entryInside l r =
     inside (l .buffer) (r .agentat) (r .agentlen)
     && (inside (l .buffer) (r .nameat) (r .namelen)
     && ((eqb (r .addrlen) 0 || inside (l .buffer) (r .addrat) (r .addrlen - 4))
-    && (leb (r .first + r .count) (length (l .features) / 3)
+    && (leb (r .first + r .count) (length (l .features) / featureRowSize)
     && every (featureInside (l .buffer)) (ownRows l r))))

@@ -15,7 +15,7 @@ use Rattle.wire.specs.Numbers.{lt-or-ge}
 use Rattle.handshake.specs.Value.{AddressTyped}
 use Rattle.handshake.specs.AddressLaws.{addressOf-typed}
 use Rattle.handshake.specs.declared.EntryRow.{EntryRow}
-use Rattle.handshake.specs.Tables.{rows, entryRow, Lent, entryRows, featureRows, ownRows, bytesAt, entryOf, wholeRows, featureNumbers, entryNumbers, tablesWhole, inside, featureInside, entryInside}
+use Rattle.handshake.specs.Tables.{rows, featureRowSize, entryRowSize, entryRow, Lent, entryRows, featureRows, ownRows, bytesAt, entryOf, wholeRows, featureNumbers, entryNumbers, tablesWhole, inside, featureInside, entryInside}
 use Rattle.handshake.specs.Writes.{rowInside}
 
 -- a part inside the buffer
@@ -38,8 +38,8 @@ module _ (l : Lent) (whole : tablesWhole l ≡ true) where
   whole-rows : (every entryNumbers (entryRows l) ≡ true) × (every featureNumbers (featureRows l) ≡ true)
   unfolding tablesWhole
   whole-rows =
-      let a = and-true (wholeRows 12 (l .entries)) _ whole .1 in
-      let b = and-true (wholeRows 3 (l .features)) _ a .1 in
+      let a = and-true (wholeRows entryRowSize (l .entries)) _ whole .1 in
+      let b = and-true (wholeRows featureRowSize (l .features)) _ a .1 in
       and-true (every entryNumbers (entryRows l)) (every featureNumbers (featureRows l)) b
 
   pub whole-entries : every entryNumbers (entryRows l) ≡ true
@@ -52,12 +52,12 @@ module _ (l : Lent) (whole : tablesWhole l ≡ true) where
   pub row-numbers : (k : ℕ) → rowInside l k ≡ true → entryNumbers (entryRow (l .entries) k) ≡ true
   unfolding rowInside
   row-numbers k h =
-      let n : k < length (l .entries) / 12 = ltb-true k (length (l .entries) / 12) (and-true (ltb k (length (l .entries) / 12)) _ h .0) in
-      every-row entryNumbers (entryRow (l .entries)) (length (l .entries) / 12) 0 k whole-entries (omega arith) (omega arith)
+      let n : k < length (l .entries) / entryRowSize = ltb-true k (length (l .entries) / entryRowSize) (and-true (ltb k (length (l .entries) / entryRowSize)) _ h .0) in
+      every-row entryNumbers (entryRow (l .entries)) (length (l .entries) / entryRowSize) 0 k whole-entries (omega arith) (omega arith)
 
   pub row-inside : (k : ℕ) → rowInside l k ≡ true → entryInside l (entryRow (l .entries) k) ≡ true
   unfolding rowInside
-  row-inside k h = and-true (ltb k (length (l .entries) / 12)) _ h .1
+  row-inside k h = and-true (ltb k (length (l .entries) / entryRowSize)) _ h .1
 
 -- what 16 says of a row's numbers
 pub record RowNumbers (r : EntryRow) : Type 0 where
@@ -91,7 +91,7 @@ pub record PartsInside (l : Lent) (r : EntryRow) : Type 0 where
   pub agent : inside (l .buffer) (r .agentat) (r .agentlen) ≡ true
   pub name : inside (l .buffer) (r .nameat) (r .namelen) ≡ true
   pub address : (eqb (r .addrlen) 0 || inside (l .buffer) (r .addrat) (r .addrlen - 4)) ≡ true
-  pub range : leb (r .first + r .count) (length (l .features) / 3) ≡ true
+  pub range : leb (r .first + r .count) (length (l .features) / featureRowSize) ≡ true
   pub features : every (featureInside (l .buffer)) (ownRows l r) ≡ true
 
 pub parts-inside : (l : Lent) (r : EntryRow) → entryInside l r ≡ true → PartsInside l r
@@ -100,11 +100,11 @@ parts-inside l r h =
     let a = and-true (inside (l .buffer) (r .agentat) (r .agentlen)) _ h in
     let b = and-true (inside (l .buffer) (r .nameat) (r .namelen)) _ (a .1) in
     let d = and-true (eqb (r .addrlen) 0 || inside (l .buffer) (r .addrat) (r .addrlen - 4)) _ (b .1) in
-    let e = and-true (leb (r .first + r .count) (length (l .features) / 3)) (every (featureInside (l .buffer)) (ownRows l r)) (d .1) in
+    let e = and-true (leb (r .first + r .count) (length (l .features) / featureRowSize)) (every (featureInside (l .buffer)) (ownRows l r)) (d .1) in
     record { agent = a .0; name = b .0; address = d .0; range = e .0; features = e .1 }
 
-pub own-range : (l : Lent) (r : EntryRow) → entryInside l r ≡ true → r .first + r .count ≤ length (l .features) / 3
-own-range l r h = leb-true (r .first + r .count) (length (l .features) / 3) (parts-inside l r h .range)
+pub own-range : (l : Lent) (r : EntryRow) → entryInside l r ≡ true → r .first + r .count ≤ length (l .features) / featureRowSize
+own-range l r h = leb-true (r .first + r .count) (length (l .features) / featureRowSize) (parts-inside l r h .range)
 
 -- the address of a row
 module _ (l : Lent) (r : EntryRow) (numbers : entryNumbers r ≡ true) (parts : entryInside l r ≡ true) where

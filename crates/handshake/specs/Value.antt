@@ -9,11 +9,11 @@ use Rattle.wire.specs.Bytes.{bigEndianBytes, every}
 use Rattle.wire.specs.Output.{Question, ask}
 use Rattle.vlq_utf8.specs.Utf8.{utf8}
 use Rattle.vlq.specs.Vlq.{limit, vlqBytes}
-use Rattle.vlq.specs.ShortString.{shortStringBytes}
+use Rattle.vlq.specs.ShortString.{maxShortString, shortStringBytes}
 use Rattle.types.specs.declared.Version.{Version}
 use Rattle.types.specs.declared.Address.{Address}
 use Rattle.types.specs.declared.Address.the-variants.{None, V4, V6}
-use Rattle.handshake.specs.Entry.{EntryFeature, Entry, EntryHandshake}
+use Rattle.handshake.specs.Entry.{ipv4Length, ipv6Length, EntryFeature, Entry, EntryHandshake}
 
 -- ---- values
 
@@ -60,8 +60,8 @@ handshakeValue h = record { timestamp = h .timestamp; entry = entryValue (h .ent
 -- flag 0, or flag 1 with L 8 or 20, the address's bytes and the port
 unfoldable pub addressBytes : Address → List ℕ
 addressBytes None = 0 ∷ []
-addressBytes (V4 ip port) = 1 ∷ 8 ∷ (bigEndianBytes 4 ip ++ vlqBytes port)
-addressBytes (V6 high low port) = 1 ∷ 20 ∷ (bigEndianBytes 8 high ++ (bigEndianBytes 8 low ++ vlqBytes port))
+addressBytes (V4 ip port) = 1 ∷ ipv4Length ∷ (bigEndianBytes 4 ip ++ vlqBytes port)
+addressBytes (V6 high low port) = 1 ∷ ipv6Length ∷ (bigEndianBytes 8 high ++ (bigEndianBytes 8 low ++ vlqBytes port))
 
 unfoldable pub featureBytes : FeatureValue → List ℕ
 featureBytes f = f .id ∷ (vlqBytes (length (f .body)) ++ f .body)
@@ -84,15 +84,19 @@ handshakeBytes h = vlqBytes (h .timestamp) ++ entryBytes (h .entry)
 
 -- 13
 unfoldable pub shortStrings : EntryValue → Bool
-shortStrings e = leb (length (e .agent)) 255 && leb (length (e .name)) 255
+shortStrings e = leb (length (e .agent)) maxShortString && leb (length (e .name)) maxShortString
 
 -- 4
 unfoldable pub utf8Strings : EntryValue → Bool
 utf8Strings e = utf8 (e .agent) && utf8 (e .name)
 
+-- the most features of an entry, whose count is a byte
+abbrev pub maxFeatures : ℕ
+maxFeatures = 255
+
 -- 15
 unfoldable pub fewFeatures : EntryValue → Bool
-fewFeatures e = leb (length (e .features)) 255
+fewFeatures e = leb (length (e .features)) maxFeatures
 
 -- 3
 unfoldable pub lengthsWithin : EntryValue → Bool

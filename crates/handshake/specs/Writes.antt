@@ -16,7 +16,7 @@ use Rattle.types.specs.declared.Version.{Version}
 use Rattle.types.specs.declared.Address.{Address}
 use Rattle.types.specs.Magic.{magicOf}
 use Rattle.handshake.specs.Value.{FeatureValue, EntryValue, HandshakeValue, entryBytes, handshakeBytes, entriesAsked}
-use Rattle.handshake.specs.Tables.{Lent, entryRow, entryOf, tablesWhole, entryInside}
+use Rattle.handshake.specs.Tables.{entryRowSize, Lent, entryRow, entryOf, tablesWhole, entryInside}
 
 -- ---- from a row of a table
 
@@ -26,7 +26,7 @@ entryAt l k = entryOf l (entryRow (l .entries) k)
 
 -- 12: is the row in its table, and is all that it names inside?
 unfoldable pub rowInside : Lent → ℕ → Bool
-rowInside l k = ltb k (length (l .entries) / 12) && entryInside l (entryRow (l .entries) k)
+rowInside l k = ltb k (length (l .entries) / entryRowSize) && entryInside l (entryRow (l .entries) k)
 
 -- the questions after the place's, of the one entry in row k
 abbrev pub rowAsked : Lent → ℕ → List Question

@@ -5,6 +5,9 @@ ghost use lib.ListN.{length, take, drop};
 ghost use Rattle.handshake.specs.Entry.{addressOf, address};
 ghost use Rattle.handshake_address_read.specs.DeclaredAddress.{declaredAddress};
 ghost use Rattle.handshake_address_read.specs.Answers.{addressAnswer};
+use handshake::IPV4_LENGTH;
+use handshake::IPV6_LENGTH;
+use handshake::PORT_COUNT;
 use types::Address;
 use vlq::ByteRead;
 use vlq::Cursor;
@@ -42,7 +45,7 @@ fn read_address(s: &[u8], c: Cursor) -> AddressRead
         ByteRead::Value(l, d) => match d.read_part(s, minus_four(l)) {
             PartRead::Value(bytes, e) => match e.read_vlq(s) {
                 VlqRead::Value(port, f) => {
-                    let a = address_of(s, l, bytes.start, (port % 65536) as u16);
+                    let a = address_of(s, l, bytes.start, (port % PORT_COUNT) as u16);
                     AddressRead::Value(a, f)
                 }
                 VlqRead::Refused(m) => AddressRead::Refused(m),
@@ -65,10 +68,10 @@ fn address_of(s: &[u8], l: u8, at: usize, port: u16) -> Address
     requires { ⌜ at + (l - 4) ≤ length (now s) ⌝ }
     ensures { λ r. ⌜ r ≡ addressOf l (take (l - 4) (drop at (now (s .entry)))) port ⌝ }
 {
-    if l == 8 {
+    if l == IPV4_LENGTH {
         return Address::V4(big_endian_4_at(s, at), port);
     }
-    if l == 20 {
+    if l == IPV6_LENGTH {
         return Address::V6(big_endian_8_at(s, at), big_endian_8_at(s, at + 8), port);
     }
     Address::None

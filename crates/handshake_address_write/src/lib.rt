@@ -5,21 +5,26 @@ ghost use mathlib.Core.List.{[], _∷_, _++_};
 ghost use Prim.Native.Nat.{_+_, _≤_};
 ghost use lib.ListN.{length};
 ghost use Rattle.wire.specs.Bytes.{bigEndianBytes};
-ghost use Rattle.wire.specs.Output.{put, written, outputAfter, Wrote};
+ghost use Rattle.wire.specs.Output.{put, written, outputAfter};
 ghost use Rattle.vlq.specs.Vlq.{vlqBytes};
 ghost use Rattle.handshake.specs.Value.{addressBytes};
+use handshake::IPV4_LENGTH;
+use handshake::IPV6_LENGTH;
 use types::Address;
 use vlq_write::vlq_len;
 use vlq_write::write_vlq;
 use wire::Written;
-use wire_output::ask_place;
+use wire_numbers::big_endian_bytes_4;
+use wire_numbers::big_endian_bytes_8;
+use wire_output::ask_room;
+use wire_part_write::write_part;
 
 // Flag 0, or flag 1, L, the address's bytes and the port.
 pub fn write_address(out: &mut [u8], at: usize, address: Address) -> Written
     ensures { λ r. ⌜ r ≡ written [] [] (now (out .entry)) at (addressBytes address) ⌝ }
     ensures { λ r. ⌜ now (out .exit) ≡ outputAfter r (now (out .entry)) at (addressBytes address) ⌝ }
 {
-    let answer = ask_place(out.len(), at, Written::To(address_len(address)));
+    let answer = ask_room(out.len(), at, address_len(address));
     if let Written::To(_) = answer {
         put_address(out, at, address);
     }
@@ -55,9 +60,10 @@ fn put_v4(out: &mut [u8], at: usize, ip: u32, port: u16)
     ensures { λ _. ⌜ now (out .exit) ≡ put (now (out .entry)) at (1 ∷ 8 ∷ (bigEndianBytes 4 ip ++ vlqBytes port)) ⌝ }
 {
     out[at] = 1;
-    out[at + 1] = 8;
-    let a = put_four(out, at + 2, ip);
-    write_vlq(out, a, port as u64);
+    out[at + 1] = IPV4_LENGTH;
+    let bytes = big_endian_bytes_4(ip);
+    write_part(out, at + 2, &bytes);
+    write_vlq(out, at + 6, port as u64);
 }
 
 fn put_v6(out: &mut [u8], at: usize, high: u64, low: u64, port: u16)
@@ -65,29 +71,10 @@ fn put_v6(out: &mut [u8], at: usize, high: u64, low: u64, port: u16)
     ensures { λ _. ⌜ now (out .exit) ≡ put (now (out .entry)) at (1 ∷ 20 ∷ (bigEndianBytes 8 high ++ (bigEndianBytes 8 low ++ vlqBytes port))) ⌝ }
 {
     out[at] = 1;
-    out[at + 1] = 20;
-    let a = put_eight(out, at + 2, high);
-    let b = put_eight(out, a, low);
-    write_vlq(out, b, port as u64);
-}
-
-// The eight bytes of a number, the highest first.
-fn put_eight(out: &mut [u8], at: usize, n: u64) -> usize
-    requires { ⌜ at + 8 ≤ length (now out) ⌝ }
-    ensures { λ r. ⌜ Wrote (now (out .entry)) at (bigEndianBytes 8 n) r (now (out .exit)) ⌝ }
-{
-    let a = put_four(out, at, (n / 0x1_0000_0000) as u32);
-    put_four(out, a, (n % 0x1_0000_0000) as u32)
-}
-
-// The four bytes of a number, the highest first.
-fn put_four(out: &mut [u8], at: usize, n: u32) -> usize
-    requires { ⌜ at + 4 ≤ length (now out) ⌝ }
-    ensures { λ r. ⌜ Wrote (now (out .entry)) at (bigEndianBytes 4 n) r (now (out .exit)) ⌝ }
-{
-    out[at] = (n / 0x100_0000) as u8;
-    out[at + 1] = (n / 0x1_0000 % 0x100) as u8;
-    out[at + 2] = (n / 0x100 % 0x100) as u8;
-    out[at + 3] = (n % 0x100) as u8;
-    at + 4
+    out[at + 1] = IPV6_LENGTH;
+    let first = big_endian_bytes_8(high);
+    let last = big_endian_bytes_8(low);
+    write_part(out, at + 2, &first);
+    write_part(out, at + 10, &last);
+    write_vlq(out, at + 18, port as u64);
 }

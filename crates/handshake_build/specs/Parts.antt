@@ -4,12 +4,11 @@ use mathlib.Core.Bool.{true}
 use mathlib.Core.List.{List, [], _∷_, _++_}
 use mathlib.Core.Path.{_≡_}
 use lib.ListN.{length}
-use Rattle.wire.specs.declared.Written.{Written}
-use Rattle.wire.specs.declared.Written.the-variants.{To, Refused}
+use Rattle.wire.specs.Output.{sized}
+use Rattle.wire.specs.declared.Size.{Size}
 use Rattle.vlq_utf8.specs.Utf8.{utf8}
 use Rattle.vlq.specs.Vlq.{vlqBytes}
-use Rattle.vlq.specs.ShortString.{shortStringBytes}
-use Rattle.wire_output.specs.Asked.{writtenFor}
+use Rattle.vlq.specs.ShortString.{maxShortString, shortStringBytes}
 use Rattle.handshake.specs.Value.{featureBytes, versionBytes, handshakeBytes, entriesAsked}
 use Rattle.handshake.specs.Writes.{built}
 use Rattle.handshake.specs.Writes as writes
@@ -35,18 +34,14 @@ configOf c agent name =
 
 -- ---- Only for laws, proofs and private functions: no public contract and no theorem cites what follows.
 
-unfoldable pub endOf : Written → ℕ
-endOf (To e) = e
-endOf (Refused m) = 0
-
--- what `build` says of an output of len bytes
-unfoldable pub builtSaid : ℕ → ℕ → writes.Config → Written
-builtSaid len at c = writtenFor [] (entriesAsked (built c .entry ∷ [])) len at (length (handshakeBytes (built c)))
+-- the questions of what `build` makes, and how many bytes it has
+unfoldable pub builtSize : writes.Config → Size
+builtSize c = sized (entriesAsked (built c .entry ∷ [])) (length (handshakeBytes (built c)))
 
 -- agent and name that are accepted
 pub record BuildReady (agent name : List ℕ) : Type 0 where
-  pub shortagent : length agent ≤ 255
-  pub shortname : length name ≤ 255
+  pub shortagent : length agent ≤ maxShortString
+  pub shortname : length name ≤ maxShortString
   pub utfagent : utf8 agent ≡ true
   pub utfname : utf8 name ≡ true
 

@@ -4,41 +4,41 @@ use Prim.Native.Nat.{ℕ, _+_, _≤_}
 use native.Mathlib.Omega.{arith}
 use mathlib.Core.Bool.{true, _&&_}
 use mathlib.Core.List.{List, [], _∷_, _++_, flatMap, append-assoc, append-nil}
-use mathlib.Core.Path.{_≡_, sym, ap, _∙_}
+use mathlib.Core.Path.{_≡_, refl, sym, ap, _∙_}
 use lib.Dec.{leb}
 use lib.IntN.{ℤ}
 use lib.ListN.{length, length-append}
 use borrow.Author.Tests.{le-leb, leb-true}
 use Rattle.wire.specs.Bytes.{every}
 use Rattle.wire.specs.BytesLaws.{and-true}
-use Rattle.wire.specs.Output.{Question, asked, written, outputAfter, Wrote}
-use Rattle.wire.specs.OutputLaws.{AllHold, written-to, wrote-checked}
+use Rattle.wire.specs.Output.{Question, sized, written, outputAfter, Wrote}
+use Rattle.wire.specs.OutputLaws.{AllHold, wrote-checked}
 use Rattle.wire.specs.declared.Written.{Written}
-use Rattle.wire.specs.declared.Written.the-variants.{To}
+use Rattle.wire.specs.declared.Size.the-variants.{Bytes}
 use Rattle.vlq_utf8.specs.Utf8.{utf8}
 use Rattle.vlq.specs.Vlq.{limit, vlqBytes}
-use Rattle.vlq.specs.ShortString.{shortStringBytes}
+use Rattle.vlq.specs.ShortString.{maxShortString, shortStringBytes}
 use Rattle.handshake.specs.Value.{FeatureValue, featureBytes, versionBytes, addressBytes, entryBytes, handshakeBytes, shortStrings, utf8Strings, fewFeatures, lengthsWithin, entriesAsked}
 use Rattle.handshake.specs.Writes.{modeFeature, sessionFeature, built}
-use Rattle.wire_output.specs.Asked.{placed}
+use Rattle.wire_output.specs.Asked.{writtenFor, outputAsked}
+use Rattle.wire_output.specs.AskedLaws.{Without16, output-rest}
 use Rattle.handshake_features_write.specs.Features.{modeFeatureOf, sessionFeatureOf}
 use Rattle.handshake_build.specs.declared.Config.{Config}
-use Rattle.handshake_build.specs.Parts.{endOf, configOf, builtSaid, BuildReady, headBytes, modeBytes, sessionBytes}
+use Rattle.handshake_build.specs.Parts.{configOf, builtSize, BuildReady, headBytes, modeBytes, sessionBytes}
 
--- a writer whose questions hold and that has room ends after its bytes
-pub wrote-end : (before after : List Question) (out : List ℕ) (at : ℕ) (bs : List ℕ) {r : Written} {last : List ℕ} {e : ℕ}
-    → r ≡ written before after out at bs → last ≡ outputAfter r out at bs → e ≡ endOf r
+-- a writer whose questions hold and that has room ends at e, the place after its bytes
+pub wrote-end : (before after : List Question) (out : List ℕ) (at : ℕ) (bs : List ℕ) (e : ℕ) {r : Written} {last : List ℕ}
+    → r ≡ written before after out at bs → last ≡ outputAfter r out at bs → e ≡ at + length bs
     → AllHold before → AllHold after → at + length bs ≤ length out → Wrote out at bs e last
-unfolding endOf
-wrote-end before after out at bs says left is f t h =
-    record { end = is ∙ ap endOf (says ∙ written-to before after out at bs f t h); bytes = wrote-checked before after out at bs says left f t h .bytes }
+wrote-end before after out at bs e says left is f t h =
+    record { end = is; bytes = wrote-checked before after out at bs says left f t h .bytes }
 
 -- the same of bytes that depend on a signed number n, which the writer was passed as m
-pub wrote-passed : (out : List ℕ) (at : ℕ) (bytes : ℤ → List ℕ) (n : ℤ) {m : ℤ} {r : Written} {last : List ℕ} {e : ℕ} → m ≡ n
-    → r ≡ written [] [] out at (bytes m) → last ≡ outputAfter r out at (bytes m) → e ≡ endOf r
+pub wrote-passed : (out : List ℕ) (at : ℕ) (bytes : ℤ → List ℕ) (n : ℤ) (e : ℕ) {m : ℤ} {r : Written} {last : List ℕ} → m ≡ n
+    → r ≡ written [] [] out at (bytes m) → last ≡ outputAfter r out at (bytes m) → e ≡ at + length (bytes n)
     → at + length (bytes n) ≤ length out → Wrote out at (bytes n) e last
-wrote-passed out at bytes n {m} {r} p says left is h =
-    wrote-end [] [] out at (bytes n)
+wrote-passed out at bytes n e {m} {r} p says left is h =
+    wrote-end [] [] out at (bytes n) e
     (says ∙ ap (λ (k : ℤ). written [] [] out at (bytes k)) p)
     (left ∙ ap (λ (k : ℤ). outputAfter r out at (bytes k)) p)
     is tt tt h
@@ -54,7 +54,7 @@ unfolding featureBytes
 body-within f = omega (arith, length-append (vlqBytes (length (f .body))) (f .body))
 
 module _ (c : Config) (agent name : List ℕ) where
-  pub built-parts : handshakeBytes (built (configOf c agent name)) ≡ headBytes c agent name ++ (addressBytes (c .address) ++ ((2 ∷ []) ++ (modeBytes c ++ sessionBytes c)))
+  pub built-parts : handshakeBytes (built (configOf c agent name)) ≡ headBytes c agent name ++ (addressBytes (c .address) ++ (2 ∷ (modeBytes c ++ sessionBytes c)))
   unfolding handshakeBytes entryBytes built headBytes flatMap modeFeature sessionFeature modeFeatureOf sessionFeatureOf modeBytes sessionBytes
   built-parts =
       ap
@@ -78,31 +78,36 @@ module _ (c : Config) (agent name : List ℕ) where
       omega (
         arith,
         ap length built-parts,
-        length-append (headBytes c agent name) (addressBytes (c .address) ++ ((2 ∷ []) ++ (modeBytes c ++ sessionBytes c))),
-        length-append (addressBytes (c .address)) ((2 ∷ []) ++ (modeBytes c ++ sessionBytes c)),
+        length-append (headBytes c agent name) (addressBytes (c .address) ++ (2 ∷ (modeBytes c ++ sessionBytes c))),
+        length-append (addressBytes (c .address)) (2 ∷ (modeBytes c ++ sessionBytes c)),
         length-append (modeBytes c) (sessionBytes c),
       )
 
-  -- once the strings are accepted, the room alone is left to ask
-  pub built-placed : length (modeBytes c) ≤ 16 → length (sessionBytes c) ≤ 16 → (len at : ℕ) → at ≤ len → BuildReady agent name
-      → placed len at (To (length (handshakeBytes (built (configOf c agent name))))) ≡ builtSaid len at (configOf c agent name)
-  unfolding placed builtSaid entriesAsked asked every shortStrings utf8Strings fewFeatures lengthsWithin built modeFeature sessionFeature modeFeatureOf sessionFeatureOf modeBytes sessionBytes
-  built-placed mode session len at h ready =
+  -- once the strings are accepted, every question is answered "yes"
+  pub built-bytes : length (modeBytes c) ≤ 16 → length (sessionBytes c) ≤ 16 → BuildReady agent name
+      → builtSize (configOf c agent name) ≡ Bytes (length (handshakeBytes (built (configOf c agent name))))
+  unfolding builtSize entriesAsked sized every shortStrings utf8Strings fewFeatures lengthsWithin built modeFeature sessionFeature modeFeatureOf sessionFeatureOf modeBytes sessionBytes
+  built-bytes mode session ready =
       let m = modeFeature (configOf c agent name) in
       let s = sessionFeature (configOf c agent name) in
       rw (
-        le-leb at len h,
-        le-leb (length agent) 255 (ready .shortagent),
-        le-leb (length name) 255 (ready .shortname),
+        le-leb (length agent) maxShortString (ready .shortagent),
+        le-leb (length name) maxShortString (ready .shortname),
         ready .utfagent,
         ready .utfname,
         le-leb (length (m .body)) limit (omega (arith, mode, body-within m)),
         le-leb (length (s .body)) limit (omega (arith, session, body-within s)),
       )
 
+  -- with the output's questions they are those of `build`
+  pub built-asked : (len at : ℕ) → outputAsked len at (builtSize (configOf c agent name))
+      ≡ writtenFor [] (entriesAsked (built (configOf c agent name) .entry ∷ [])) len at (length (handshakeBytes (built (configOf c agent name))))
+  unfolding builtSize entriesAsked Without16
+  built-asked len at = output-rest len at _ _ (refl, (refl, (refl, (refl, tt))))
+
   pub build-ready : AllHold (entriesAsked (built (configOf c agent name) .entry ∷ [])) → BuildReady agent name
   unfolding entriesAsked every shortStrings utf8Strings built
   build-ready holds =
-      let s = and-true (leb (length agent) 255) (leb (length name) 255) (and-true (leb (length agent) 255 && leb (length name) 255) true (holds .0) .0) in
+      let s = and-true (leb (length agent) maxShortString) (leb (length name) maxShortString) (and-true (leb (length agent) maxShortString && leb (length name) maxShortString) true (holds .0) .0) in
       let u = and-true (utf8 agent) (utf8 name) (and-true (utf8 agent && utf8 name) true (holds .1 .0) .0) in
-      record { shortagent = leb-true (length agent) 255 (s .0); shortname = leb-true (length name) 255 (s .1); utfagent = u .0; utfname = u .1 }
+      record { shortagent = leb-true (length agent) maxShortString (s .0); shortname = leb-true (length name) maxShortString (s .1); utfagent = u .0; utfname = u .1 }

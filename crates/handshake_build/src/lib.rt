@@ -1,13 +1,15 @@
 // A handshake from its values (transport/handshake.rs `build`), written into a lent output from a place.
 // Every question is asked first, and bytes are stored only once each is answered "yes".
 ghost use mathlib.Core.Path.{_≡_};
+ghost use mathlib.Core.List.{_∷_, _++_};
 ghost use Prim.Native.Nat.{_+_, _^_, _≤_, _<_};
 ghost use lib.ListN.{length};
 ghost use Rattle.wire.specs.Output.{put, outputAfter, Wrote};
 ghost use Rattle.vlq.specs.Vlq.{vlqBytes};
+ghost use Rattle.vlq.specs.ShortString.{maxShortString};
 ghost use Rattle.handshake.specs.Value.{AddressTyped, addressBytes, versionBytes, handshakeBytes};
 ghost use Rattle.handshake.specs.Writes.{built, builtWritten};
-ghost use Rattle.handshake_build.specs.Parts.{endOf, configOf, builtSaid, BuildReady, headBytes, modeBytes, sessionBytes};
+ghost use Rattle.handshake_build.specs.Parts.{configOf, builtSize, BuildReady, headBytes, modeBytes, sessionBytes};
 use handshake_address_write::address_len;
 use handshake_address_write::write_address;
 use handshake_features_write::mode_len;
@@ -18,12 +20,13 @@ use types::Address;
 use types::Network;
 use types::ProxyMode;
 use types::Version;
+use vlq::MAX_SHORT_STRING;
 use vlq_write::vlq_len;
 use vlq_write::write_short_string;
 use vlq_write::write_vlq;
+use wire::Size;
 use wire::Written;
-use wire_output::ask_place;
-use wire_part_write::write_byte;
+use wire_output::ask_output;
 
 // What `build` is given beside agent and name. In the Mode feature: the state type byte, whether transactions are verified, and how many
 // blocks are kept.
@@ -45,7 +48,7 @@ pub fn build(out: &mut [u8], at: usize, config: Config, agent: &[u8], name: &[u8
     ensures { λ r. ⌜ now (out .exit) ≡ outputAfter r (now (out .entry)) at (handshakeBytes (built (configOf config (now (agent .entry)) (now (name .entry))))) ⌝ }
     ensures { λ _. ⌜ (config .timestamp < 2 ^ 64) × AddressTyped (config .address) ⌝ }
 {
-    let answer = ask_build(out.len(), at, config, agent, name);
+    let answer = ask_output(out.len(), at, build_size(config, agent, name));
     if let Written::To(_) = answer {
         put_build(out, at, config, agent, name);
     }
@@ -54,34 +57,28 @@ pub fn build(out: &mut [u8], at: usize, config: Config, agent: &[u8], name: &[u8
 
 // ---- questions and lengths
 
-fn ask_build(len: usize, at: usize, config: Config, agent: &[u8], name: &[u8]) -> Written
-    ensures { λ r. ⌜ r ≡ builtSaid len at (configOf config (now (agent .entry)) (now (name .entry))) ⌝ }
+// How many bytes the handshake has. Of its questions only those about agent and name can be answered "no".
+fn build_size(config: Config, agent: &[u8], name: &[u8]) -> Size
+    ensures { λ r. ⌜ r ≡ builtSize (configOf config (now (agent .entry)) (now (name .entry))) ⌝ }
 {
-    if len < at {
-        return Written::Refused(12);
+    if MAX_SHORT_STRING < agent.len() {
+        return Size::Refused(13);
     }
-    if 255 < agent.len() {
-        return Written::Refused(13);
-    }
-    if 255 < name.len() {
-        return Written::Refused(13);
+    if MAX_SHORT_STRING < name.len() {
+        return Size::Refused(13);
     }
     if !vlq_utf8::is_utf8(agent) {
-        return Written::Refused(4);
+        return Size::Refused(4);
     }
     if !vlq_utf8::is_utf8(name) {
-        return Written::Refused(4);
+        return Size::Refused(4);
     }
-    ask_place(
-        len,
-        at,
-        Written::To(build_len(config, agent.len(), name.len())),
-    )
+    Size::Bytes(build_len(config, agent.len(), name.len()))
 }
 
 // How many bytes a handshake with strings of a and n bytes has.
 fn build_len(config: Config, a: usize, n: usize) -> usize
-    requires { ⌜ (a ≤ 255) × (n ≤ 255) ⌝ }
+    requires { ⌜ (a ≤ maxShortString) × (n ≤ maxShortString) ⌝ }
     ensures { λ r. ⌜ (r ≡ length (vlqBytes (config .timestamp)) + (5 + a + n) + length (addressBytes (config .address)) + (1 + length (modeBytes config) + length (sessionBytes config))) × (length (modeBytes config) ≤ 16) × (length (sessionBytes config) ≤ 16) ⌝ }
 {
     let address = config.address;
@@ -97,21 +94,10 @@ fn put_build(out: &mut [u8], at: usize, config: Config, agent: &[u8], name: &[u8
     requires { ⌜ at + length (handshakeBytes (built (configOf config (now agent) (now name)))) ≤ length (now out) ⌝ }
     ensures { λ _. ⌜ now (out .exit) ≡ put (now (out .entry)) at (handshakeBytes (built (configOf config (now (agent .entry)) (now (name .entry))))) ⌝ }
 {
-    let network = config.network;
-    let mode = config.mode;
     let address = config.address;
     let a = put_head(out, at, config, agent, name);
-    let b = end_of(write_address(out, a, address));
-    let c = end_of(write_byte(out, b, 2));
-    let d = end_of(write_mode(
-        out,
-        c,
-        mode,
-        config.statetype,
-        config.verifying,
-        config.blocks,
-    ));
-    write_session(out, d, network, config.session);
+    write_address(out, a, address);
+    put_features(out, a + address_len(address), config);
 }
 
 // Timestamp, agent, version and name.
@@ -121,10 +107,12 @@ fn put_head(out: &mut [u8], at: usize, config: Config, agent: &[u8], name: &[u8]
     ensures { λ r. ⌜ Wrote (now (out .entry)) at (headBytes config (now (agent .entry)) (now (name .entry))) r (now (out .exit)) ⌝ }
 {
     let version = config.version;
-    let a = end_of(write_vlq(out, at, config.timestamp));
-    let b = end_of(write_short_string(out, a, agent));
-    let c = put_version(out, b, version);
-    end_of(write_short_string(out, c, name))
+    write_vlq(out, at, config.timestamp);
+    let a = at + vlq_len(config.timestamp);
+    write_short_string(out, a, agent);
+    let b = put_version(out, a + 1 + agent.len(), version);
+    write_short_string(out, b, name);
+    b + 1 + name.len()
 }
 
 fn put_version(out: &mut [u8], at: usize, version: Version) -> usize
@@ -137,12 +125,22 @@ fn put_version(out: &mut [u8], at: usize, version: Version) -> usize
     at + 3
 }
 
-// Where an accepted writer ended.
-fn end_of(w: Written) -> usize
-    ensures { λ r. ⌜ r ≡ endOf w ⌝ }
+// How many features there are, Mode and Session.
+fn put_features(out: &mut [u8], at: usize, config: Config)
+    requires { ⌜ at + (1 + length (modeBytes config) + length (sessionBytes config)) ≤ length (now out) ⌝ }
+    ensures { λ _. ⌜ now (out .exit) ≡ put (now (out .entry)) at (2 ∷ (modeBytes config ++ sessionBytes config)) ⌝ }
 {
-    match w {
-        Written::To(end) => end,
-        Written::Refused(_) => 0,
-    }
+    let network = config.network;
+    let mode = config.mode;
+    out[at] = 2;
+    write_mode(
+        out,
+        at + 1,
+        mode,
+        config.statetype,
+        config.verifying,
+        config.blocks,
+    );
+    let end = at + 1 + mode_len(mode, config.blocks);
+    write_session(out, end, network, config.session);
 }

@@ -19,7 +19,7 @@ use vlq_write::write_vlq;
 use vlq_zigzag::zigzag_encode;
 use vlq_zigzag::zigzag_encode_i64;
 use wire::Written;
-use wire_output::ask_place;
+use wire_output::ask_room;
 use wire_part_write::write_part;
 
 // ---- Mode
@@ -36,7 +36,7 @@ pub fn write_mode(
     ensures { λ r. ⌜ r ≡ written [] [] (now (out .entry)) at (featureBytes (modeFeatureOf mode statetype verifying blocks)) ⌝ }
     ensures { λ r. ⌜ now (out .exit) ≡ outputAfter r (now (out .entry)) at (featureBytes (modeFeatureOf mode statetype verifying blocks)) ⌝ }
 {
-    let answer = ask_place(out.len(), at, Written::To(mode_len(mode, blocks)));
+    let answer = ask_room(out.len(), at, mode_len(mode, blocks));
     if let Written::To(_) = answer {
         put_mode(out, at, mode, statetype, verifying, blocks);
     }
@@ -98,7 +98,7 @@ pub fn write_session(out: &mut [u8], at: usize, network: Network, session: i64) 
     ensures { λ r. ⌜ r ≡ written [] [] (now (out .entry)) at (featureBytes (sessionFeatureOf network session)) ⌝ }
     ensures { λ r. ⌜ now (out .exit) ≡ outputAfter r (now (out .entry)) at (featureBytes (sessionFeatureOf network session)) ⌝ }
 {
-    let answer = ask_place(out.len(), at, Written::To(session_len(session)));
+    let answer = ask_room(out.len(), at, session_len(session));
     if let Written::To(_) = answer {
         put_session(out, at, network, session);
     }

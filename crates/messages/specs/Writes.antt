@@ -21,12 +21,16 @@ idPlaces t = rows (λ k. getD t k 0) 0 (length t)
 unfoldable pub idsOf : List ℕ → List ℕ → List (List ℕ)
 idsOf t buffer = map (λ at. bytesAt buffer at 32) (idPlaces t)
 
+-- how many numbers a payload's row has in a table
+abbrev pub payloadRowSize : ℕ
+payloadRowSize = 3
+
 -- a row is a payload's id place, place, length
 abbrev pub payloadRow : List ℕ → ℕ → PayloadRow
-payloadRow t k = record { id = getD t (3 * k) 0; at = getD t (3 * k + 1) 0; len = getD t (3 * k + 2) 0 }
+payloadRow t k = record { id = getD t (payloadRowSize * k) 0; at = getD t (payloadRowSize * k + 1) 0; len = getD t (payloadRowSize * k + 2) 0 }
 
 abbrev pub payloadRows : List ℕ → List PayloadRow
-payloadRows t = rows (payloadRow t) 0 (length t / 3)
+payloadRows t = rows (payloadRow t) 0 (length t / payloadRowSize)
 
 unfoldable pub payloadOf : List ℕ → PayloadRow → PayloadValue
 payloadOf buffer r = record { id = bytesAt buffer (r .id) 32; body = bytesAt buffer (r .at) (r .len) }
@@ -61,7 +65,7 @@ unfoldable pub messageWhole : MessageWrite → Bool
 messageWhole writeGetPeers = true
 messageWhole (writePeers l) = tablesWhole l
 messageWhole (writeModifierRequest type ids buffer) = true
-messageWhole (writeModifierResponse type payloads buffer) = wholeRows 3 payloads
+messageWhole (writeModifierResponse type payloads buffer) = wholeRows payloadRowSize payloads
 messageWhole (writeInv type ids buffer) = true
 messageWhole (writeSyncInfo body) = true
 messageWhole (writeUnknown code body) = true

@@ -7,6 +7,7 @@ ghost use Rattle.vlq.specs.Answers.{byteAnswer, vlqAnswer, partAnswer};
 ghost use Rattle.messages_body_reader.specs.Reading.{placeAfter, readBy, movedBy, mapped};
 ghost use Rattle.messages.specs.Message.{header};
 ghost use Rattle.messages_body_reader.specs.Header.{headerAnswer, headerOf};
+use messages::MAX_INV_OBJECTS;
 use types::BodyPlace;
 use vlq::ByteRead;
 use vlq::Cursor;
@@ -94,8 +95,6 @@ pub fn inventory_header(body: &[u8]) -> HeaderRead
     header_of(kind, count)
 }
 
-const MAX_INV_OBJECTS: u64 = 400;
-
 // The header of the two answers. Where the byte was refused the reader had stayed, and the second answer is not looked at.
 fn header_of(kind: ByteRead, count: VlqRead) -> HeaderRead
     ensures { λ r. ⌜ headerAnswer r ≡ headerOf (byteAnswer kind) (vlqAnswer count) ⌝ }
@@ -103,7 +102,7 @@ fn header_of(kind: ByteRead, count: VlqRead) -> HeaderRead
     match kind {
         ByteRead::Value(k, _) => match count {
             VlqRead::Value(n, c) => {
-                if n <= MAX_INV_OBJECTS {
+                if n <= MAX_INV_OBJECTS as u64 {
                     let at = c.at;
                     HeaderRead::Value(InventoryHeader { kind: k, count: n }, BodyPlace(at))
                 } else {

@@ -15,7 +15,7 @@ use Rattle.frame_write.specs.Asked.{frameLength}
 use Rattle.handshake.specs.Tables.{wholeRows}
 use Rattle.messages.specs.Message.{maxInvObjects}
 use Rattle.messages.specs.Value.{PayloadValue, modifierResponseValue, bodyBytes}
-use Rattle.messages.specs.Writes.{payloadRows, payloadOf, payloadInside}
+use Rattle.messages.specs.Writes.{payloadRowSize, payloadRows, payloadOf, payloadInside}
 use Rattle.messages.specs.declared.PayloadRow.{PayloadRow}
 
 -- the payloads of a table
@@ -33,10 +33,10 @@ responseBytes kind payloads buffer = bodyBytes (modifierResponseValue kind (payl
 unfoldable pub responseWrittenFor : ℕ → List ℕ → List ℕ → ℕ → ℕ → Written
 responseWrittenFor kind payloads buffer len at =
     writtenFor
-    (ask 16 (wholeRows 3 payloads) ∷ [])
+    (ask 16 (wholeRows payloadRowSize payloads) ∷ [])
     (ask 12 (every (payloadInside buffer) (payloadRows payloads))
     ∷ ask 3 (every (λ p. leb (length (p .body)) limit) (payloadsOf payloads buffer))
-    ∷ ask 10 (leb (length payloads / 3) maxInvObjects)
+    ∷ ask 10 (leb (length payloads / payloadRowSize) maxInvObjects)
     ∷ ask 7 (leb (length (responseBytes kind payloads buffer)) limit)
     ∷ [])
     len at (frameLength (length (responseBytes kind payloads buffer)))

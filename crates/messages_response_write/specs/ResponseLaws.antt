@@ -23,14 +23,14 @@ use Rattle.handshake.specs.Value.{entriesAsked}
 use Rattle.handshake.specs.RowsLaws.{length-rows}
 use Rattle.messages.specs.Value as Values
 use Rattle.messages.specs.Value.{PayloadValue, codeOf, payloadBytes, bodyBytes, payloadsWithin, countWithin, codeFree, messageAsked}
-use Rattle.messages.specs.Writes.{payloadRow, payloadRows, payloadOf, payloadInside, writeModifierResponse, valueOf, messageWhole, messageInside, messageWritten}
+use Rattle.messages.specs.Writes.{payloadRowSize, payloadRow, payloadRows, payloadOf, payloadInside, writeModifierResponse, valueOf, messageWhole, messageInside, messageWritten}
 use Rattle.messages.specs.declared.PayloadRow.{PayloadRow}
 use Rattle.messages_response_write.specs.Asked.{payloadsOf, rowWithin, responseBytes, responseWrittenFor}
 
 -- ---- what is said
 
-pub length-payloads : (payloads buffer : List ℕ) → length (payloadsOf payloads buffer) ≡ length payloads / 3
-length-payloads payloads buffer = length-map (payloadRows payloads) (payloadOf buffer) ∙ length-rows (payloadRow payloads) 0 (length payloads / 3)
+pub length-payloads : (payloads buffer : List ℕ) → length (payloadsOf payloads buffer) ≡ length payloads / payloadRowSize
+length-payloads payloads buffer = length-map (payloadRows payloads) (payloadOf buffer) ∙ length-rows (payloadRow payloads) 0 (length payloads / payloadRowSize)
 
 pub said-response : (network : Network) (kind : ℕ) (payloads buffer out : List ℕ) (at : ℕ)
     → responseWrittenFor kind payloads buffer (length out) at ≡ messageWritten network 0 (writeModifierResponse kind payloads buffer) out at
@@ -95,17 +95,17 @@ module _ (buffer : List ℕ) where
 
 -- a type byte, the count and the payloads
 pub response-parts : (kind : ℕ) (payloads buffer : List ℕ)
-    → responseBytes kind payloads buffer ≡ (kind ∷ []) ++ (vlqBytes (length payloads / 3) ++ flatMap payloadBytes (payloadsOf payloads buffer))
+    → responseBytes kind payloads buffer ≡ (kind ∷ []) ++ (vlqBytes (length payloads / payloadRowSize) ++ flatMap payloadBytes (payloadsOf payloads buffer))
 unfolding bodyBytes
 response-parts kind payloads buffer = rw (length-payloads payloads buffer)
 
 pub length-parts : (kind : ℕ) (payloads buffer : List ℕ)
-    → length (responseBytes kind payloads buffer) ≡ 1 + length (vlqBytes (length payloads / 3)) + length (flatMap payloadBytes (payloadsOf payloads buffer))
+    → length (responseBytes kind payloads buffer) ≡ 1 + length (vlqBytes (length payloads / payloadRowSize)) + length (flatMap payloadBytes (payloadsOf payloads buffer))
 length-parts kind payloads buffer =
-    omega (arith, ap length (response-parts kind payloads buffer), length-append (vlqBytes (length payloads / 3)) (flatMap payloadBytes (payloadsOf payloads buffer)))
+    omega (arith, ap length (response-parts kind payloads buffer), length-append (vlqBytes (length payloads / payloadRowSize)) (flatMap payloadBytes (payloadsOf payloads buffer)))
 
 pub length-response : (kind : ℕ) (payloads buffer : List ℕ) → every (payloadInside buffer) (payloadRows payloads) ≡ true
-    → length (responseBytes kind payloads buffer) ≡ 1 + length (vlqBytes (length payloads / 3)) + rowsLength (payloadRows payloads)
+    → length (responseBytes kind payloads buffer) ≡ 1 + length (vlqBytes (length payloads / payloadRowSize)) + rowsLength (payloadRows payloads)
 length-response kind payloads buffer h = omega (arith, length-parts kind payloads buffer, payloads-long buffer (payloadRows payloads) h)
 
 -- a writer that accepted

@@ -12,14 +12,16 @@ ghost use Rattle.vlq.specs.Vlq.{limit, vlqBytes};
 ghost use Rattle.frame.specs.Frame.{frameBytes};
 ghost use Rattle.frame_write.specs.Asked.{frameLength};
 ghost use Rattle.handshake.specs.Tables.{bytesAt};
+ghost use Rattle.messages.specs.Message.{maxInvObjects};
 ghost use Rattle.messages.specs.Value.{payloadBytes};
-ghost use Rattle.messages.specs.Writes.{payloadRow, payloadRows, payloadOf, payloadInside, writeModifierResponse, valueOf, messageBytes, messageWritten};
+ghost use Rattle.messages.specs.Writes.{payloadRowSize, payloadRow, payloadRows, payloadOf, payloadInside, writeModifierResponse, valueOf, messageBytes, messageWritten};
 ghost use Rattle.messages_response_write.specs.Asked.{payloadsOf, rowWithin, responseBytes, responseWrittenFor};
 ghost use Rattle.messages_response_write.specs.ResponseLaws.{rowLength, rowsLength};
 use frame::HEADER_SIZE;
 use messages::ID_SIZE;
 use messages::MAX_INV_OBJECTS;
 use messages::MODIFIER_RESPONSE;
+use messages::PAYLOAD_ROW_SIZE;
 use messages::PayloadRow;
 use types::Network;
 use wire::MAX_BODY_SIZE;
@@ -48,7 +50,7 @@ pub fn write_modifier_response(
 fn ask_response(len: usize, at: usize, kind: u8, payloads: &[u32], buffer: &[u8]) -> Written
     ensures { λ r. ⌜ r ≡ responseWrittenFor kind (now (payloads .entry)) (now (buffer .entry)) len at ⌝ }
 {
-    if payloads.len() % 3 != 0 {
+    if payloads.len() % PAYLOAD_ROW_SIZE != 0 {
         return Written::Refused(16);
     }
     if len < at {
@@ -60,7 +62,7 @@ fn ask_response(len: usize, at: usize, kind: u8, payloads: &[u32], buffer: &[u8]
     if !payloads_within(payloads) {
         return Written::Refused(3);
     }
-    if MAX_INV_OBJECTS < payloads.len() / 3 {
+    if MAX_INV_OBJECTS < payloads.len() / PAYLOAD_ROW_SIZE {
         return Written::Refused(10);
     }
     frame_write::ask_frame(len, at, response_len(payloads))
@@ -70,7 +72,7 @@ fn ask_response(len: usize, at: usize, kind: u8, payloads: &[u32], buffer: &[u8]
 fn payloads_inside(payloads: &[u32], len: usize) -> bool
     ensures { λ r. ⌜ r ≡ every (λ row. leb (row .id + 32) len && leb (row .at + row .len) len) (payloadRows (now (payloads .entry))) ⌝ }
 {
-    let n = payloads.len() / 3;
+    let n = payloads.len() / PAYLOAD_ROW_SIZE;
     let mut k = 0;
     while k < n {
         if !payload_inside(payload_at(payloads, k), len) {
@@ -95,7 +97,7 @@ fn payload_inside(row: PayloadRow, len: usize) -> bool
 fn payloads_within(payloads: &[u32]) -> bool
     ensures { λ r. ⌜ r ≡ every rowWithin (payloadRows (now (payloads .entry))) ⌝ }
 {
-    let n = payloads.len() / 3;
+    let n = payloads.len() / PAYLOAD_ROW_SIZE;
     let mut k = 0;
     while k < n {
         if MAX_BODY_SIZE < payload_at(payloads, k).len as usize {
@@ -108,21 +110,21 @@ fn payloads_within(payloads: &[u32]) -> bool
 
 // How many bytes a type byte, a count and the payloads are.
 fn response_len(payloads: &[u32]) -> usize
-    requires { ⌜ length (now payloads) / 3 ≤ 400 ⌝ }
+    requires { ⌜ length (now payloads) / payloadRowSize ≤ maxInvObjects ⌝ }
     requires { ⌜ every rowWithin (payloadRows (now payloads)) ≡ true ⌝ }
-    ensures { λ r. ⌜ r ≡ 1 + length (vlqBytes (length (now (payloads .entry)) / 3)) + rowsLength (payloadRows (now (payloads .entry))) ⌝ }
+    ensures { λ r. ⌜ r ≡ 1 + length (vlqBytes (length (now (payloads .entry)) / payloadRowSize)) + rowsLength (payloadRows (now (payloads .entry))) ⌝ }
 {
-    let count = payloads.len() / 3;
+    let count = payloads.len() / PAYLOAD_ROW_SIZE;
     1 + vlq_write::vlq_len(count as u64) + rows_len(payloads)
 }
 
 // How many bytes the payloads are.
 fn rows_len(payloads: &[u32]) -> usize
-    requires { ⌜ length (now payloads) / 3 ≤ 400 ⌝ }
+    requires { ⌜ length (now payloads) / payloadRowSize ≤ maxInvObjects ⌝ }
     requires { ⌜ every rowWithin (payloadRows (now payloads)) ≡ true ⌝ }
     ensures { λ r. ⌜ (r ≡ rowsLength (payloadRows (now (payloads .entry)))) × (r ≤ 6555460000) ⌝ }
 {
-    let n = payloads.len() / 3;
+    let n = payloads.len() / PAYLOAD_ROW_SIZE;
     let mut long = 0;
     let mut k = 0;
     while k < n {
@@ -143,13 +145,13 @@ fn row_len(row: PayloadRow) -> usize
 
 // Row k of the table.
 fn payload_at(payloads: &[u32], k: usize) -> PayloadRow
-    requires { ⌜ 3 * k + 3 ≤ length (now payloads) ⌝ }
+    requires { ⌜ payloadRowSize * k + payloadRowSize ≤ length (now payloads) ⌝ }
     ensures { λ r. ⌜ r ≡ payloadRow (now (payloads .entry)) k ⌝ }
 {
     PayloadRow {
-        id: payloads[3 * k],
-        at: payloads[3 * k + 1],
-        len: payloads[3 * k + 2],
+        id: payloads[PAYLOAD_ROW_SIZE * k],
+        at: payloads[PAYLOAD_ROW_SIZE * k + 1],
+        len: payloads[PAYLOAD_ROW_SIZE * k + 2],
     }
 }
 
@@ -179,7 +181,7 @@ fn put_body(out: &mut [u8], at: usize, kind: u8, payloads: &[u32], buffer: &[u8]
     ensures { λ r. ⌜ Wrote (now (out .entry)) at (responseBytes kind (now (payloads .entry)) (now (buffer .entry))) r (now (out .exit)) ⌝ }
 {
     out[at] = kind;
-    let count = (payloads.len() / 3) as u64;
+    let count = (payloads.len() / PAYLOAD_ROW_SIZE) as u64;
     vlq_write::write_vlq(out, at + 1, count);
     put_rows(out, at + 1 + vlq_write::vlq_len(count), payloads, buffer)
 }
@@ -190,7 +192,7 @@ fn put_rows(out: &mut [u8], at: usize, payloads: &[u32], buffer: &[u8]) -> usize
     requires { ⌜ at + length (flatMap payloadBytes (payloadsOf (now payloads) (now buffer))) ≤ length (now out) ⌝ }
     ensures { λ r. ⌜ Wrote (now (out .entry)) at (flatMap payloadBytes (payloadsOf (now (payloads .entry)) (now (buffer .entry)))) r (now (out .exit)) ⌝ }
 {
-    let n = payloads.len() / 3;
+    let n = payloads.len() / PAYLOAD_ROW_SIZE;
     let mut o = at;
     let mut k = 0;
     while k < n {

@@ -13,6 +13,10 @@ string n = andThen (part n) (λ g. guard (utf8 (g .bytes)) 4 g)
 unfoldable pub shortString : Reader Segment
 shortString = andThen byte string
 
--- the bytes of a short string of at most 255 bytes
+-- the most bytes of a short string, whose length is a byte
+abbrev pub maxShortString : ℕ
+maxShortString = 255
+
+-- the bytes of a short string
 abbrev pub shortStringBytes : List ℕ → List ℕ
 shortStringBytes s = length s ∷ s

@@ -4,6 +4,7 @@ ghost use Rattle.wire.specs.Reader.{byte, part, partOf, mapAnswer};
 ghost use Rattle.vlq.specs.Vlq.{vlq, vlqLength};
 ghost use Rattle.vlq.specs.ShortString.{string, shortString};
 ghost use Rattle.vlq.specs.Answers.{byteAnswer, vlqAnswer, partAnswer};
+use wire::MAX_BODY_SIZE;
 use wire::Part;
 
 // The most bytes of a short string, whose length is a byte.
@@ -100,13 +101,13 @@ impl Cursor {
         }
     }
 
-    // A VLQ that is a length or a count.
+    // A VLQ that is a length or a count: the Rust has the limit as MAX_VLQ_LENGTH too.
     pub fn read_vlq_length(self, s: &[u8]) -> VlqRead
         ensures { λ r. ⌜ vlqAnswer r ≡ vlqLength (now (s .entry)) (self .at) ⌝ }
     {
         match self.read_vlq(s) {
             VlqRead::Value(v, c) => {
-                if v <= MAX_VLQ_LENGTH {
+                if v <= MAX_BODY_SIZE as u64 {
                     VlqRead::Value(v, c)
                 } else {
                     VlqRead::Refused(3)
@@ -145,8 +146,6 @@ impl Cursor {
         }
     }
 }
-
-const MAX_VLQ_LENGTH: u64 = 16_388_608;
 
 fn wide(x: u8) -> u64
     ensures { λ r. ⌜ r ≡ x ⌝ }

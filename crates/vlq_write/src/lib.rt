@@ -6,9 +6,10 @@ ghost use Prim.Native.Nat.{_+_, _≤_};
 ghost use lib.ListN.{length};
 ghost use Rattle.wire.specs.Output.{written, outputAfter, Wrote};
 ghost use Rattle.vlq.specs.Vlq.{vlqBytes};
-ghost use Rattle.vlq.specs.ShortString.{shortStringBytes};
+ghost use Rattle.vlq.specs.ShortString.{maxShortString, shortStringBytes};
 ghost use Rattle.wire_output.specs.Asked.{writtenFor};
 ghost use Rattle.vlq_write.specs.Asked.{shortStringAsked};
+use vlq::MAX_SHORT_STRING;
 use wire::Written;
 use wire_output::ask_room;
 use wire_output::has_room;
@@ -61,7 +62,7 @@ fn ask_short_string(len: usize, at: usize, s: &[u8]) -> Written
     if len < at {
         return Written::Refused(12);
     }
-    if 255 < s.len() {
+    if MAX_SHORT_STRING < s.len() {
         return Written::Refused(13);
     }
     if !vlq_utf8::is_utf8(s) {
@@ -88,7 +89,7 @@ fn put_vlq(out: &mut [u8], at: usize, value: u64) -> usize
 
 // Stores the length byte and all bytes of s, and gives the place after them.
 fn put_short_string(out: &mut [u8], at: usize, s: &[u8]) -> usize
-    requires { ⌜ length (now s) ≤ 255 ⌝ }
+    requires { ⌜ length (now s) ≤ maxShortString ⌝ }
     requires { ⌜ at + length (shortStringBytes (now s)) ≤ length (now out) ⌝ }
     ensures { λ r. ⌜ Wrote (now (out .entry)) at (shortStringBytes (now (s .entry))) r (now (out .exit)) ⌝ }
 {

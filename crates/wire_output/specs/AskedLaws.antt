@@ -39,7 +39,8 @@ module _ (len at n : ℕ) where
   placed-asked true qs h = placed-rest qs h
   placed-asked false qs h = refl
 
-  output-rest : (qs : List Question) → Without16 qs → outputAsked len at (sized qs n) ≡ writtenFor [] qs len at n
+  -- with the output's questions, those of a value are the writer's: where 16 is not asked
+  pub output-rest : (qs : List Question) → Without16 qs → outputAsked len at (sized qs n) ≡ writtenFor [] qs len at n
   unfolding Without16 outputAsked sized asked
   output-rest [] h = refl
   output-rest (q ∷ qs) h = go (q .holds) (sized qs n) (asked (qs ++ (ask 14 (leb (at + n) len) ∷ [])) (To (at + n))) (output-rest qs (h .1))
@@ -49,7 +50,7 @@ module _ (len at n : ℕ) where
       go true w rest e = e
       go false w rest e = rw (h .0)
 
-  -- with the output's questions, those of a value are the writer's
+  -- and where it is asked first
   pub output-sized : (whole : Bool) (qs : List Question) → Without16 qs
       → outputAsked len at (sized (ask 16 whole ∷ qs) n) ≡ writtenFor (ask 16 whole ∷ []) qs len at n
   unfolding sized asked outputAsked

@@ -3,27 +3,22 @@ use mathlib.Core.List.{[]}
 use mathlib.Core.Path.{refl}
 use denote.Ref.{now}
 use borrow.Author.Needs.{needs}
-use Rattle.wire.specs.Output.{asked}
 use Rattle.wire_output.specs.CheckedLaws.{accepted, stored, kept}
 use Rattle.handshake.specs.Value.{addressBytes}
-use Rattle.wire_output.specs.Asked.{placed}
 use Rattle.handshake_address_write.proofs.write_address.Statement.{statement}
 use Rattle.handshake_address_write.proofs.write_address.Tie as tie
 
 put-address-requires : tie.Need-put-address-requires
-unfolding placed asked
 put-address-requires c κs =
     let a = c .before .before .before .before .before .before .args in
-    accepted [] [] (now (a .out)) (a .at) (addressBytes (a .address)) (rw (c .before .before .before .before .address-len .ensures .0) at (c .before .before .before .ask-place .ensures)) (c .before .enum-told .given .1) .room
+    accepted [] [] (now (a .out)) (a .at) (addressBytes (a .address)) (rw (c .before .before .before .before .address-len .ensures .0) at (c .before .before .before .ask-room .ensures)) (c .before .enum-told .given .1) .room
 
 returns : tie.Need-returns
-unfolding placed asked
 returns c =
-    stored [] [] _ _ _ (rw (c .before .before .before .before .before .before .before .address-len .ensures .0) at (c .before .before .before .before .before .before .ask-place .ensures)) (c .before .before .before .before .enum-told .given .1) (record { end = refl; bytes = c .before .before .put-address .ensures })
+    stored [] [] _ _ _ (rw (c .before .before .before .before .before .before .before .address-len .ensures .0) at (c .before .before .before .before .before .before .ask-room .ensures)) (c .before .before .before .before .enum-told .given .1) (record { end = refl; bytes = c .before .before .put-address .ensures })
 
 returns-2 : tie.Need-returns-2
-unfolding placed asked
-returns-2 c = kept [] [] _ _ _ (rw (c .before .before .before .address-len .ensures .0) at (c .before .before .ask-place .ensures)) (c .enum-told2 .given .1)
+returns-2 c = kept [] [] _ _ _ (rw (c .before .before .before .address-len .ensures .0) at (c .before .before .ask-room .ensures)) (c .enum-told2 .given .1)
 
 pub write-address-spec : {M : Type 1} → statement M
 write-address-spec =

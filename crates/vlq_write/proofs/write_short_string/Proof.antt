@@ -4,7 +4,7 @@ use denote.Ref.{now}
 use borrow.Author.Needs.{needs}
 use borrow.Author.Tests.{leb-true}
 use lib.ListN.{length}
-use Rattle.vlq.specs.ShortString.{shortStringBytes}
+use Rattle.vlq.specs.ShortString.{maxShortString, shortStringBytes}
 use Rattle.vlq_write.specs.Asked.{shortStringAsked}
 use Rattle.wire_output.specs.CheckedLaws.{accepted, stored, kept}
 use Rattle.vlq_write.proofs.write_short_string.Statement.{statement}
@@ -15,7 +15,7 @@ put-short-string-requires c κs =
     let a = c .before .before .before .before .before .before .args in
     let s = now (a .s) in
     let yes = accepted [] (shortStringAsked s) (now (a .out)) (a .at) (shortStringBytes s) (c .before .before .before .ask-short-string .ensures) (c .before .enum-told .given .1) in
-    (leb-true (length s) 255 (yes .rest .0), yes .room)
+    (leb-true (length s) maxShortString (yes .rest .0), yes .room)
 
 returns : tie.Need-returns
 returns c =
