@@ -1,4 +1,5 @@
-// What a handshake or an entry says of the peer: the verdict on it, and its REST API URL (transport/handshake.rs).
+// What a handshake or an entry says of the peer: the verdict on it, and its REST API URL (transport/handshake.rs). Each is read from the bytes, or
+// found from what was read of them already.
 ghost use mathlib.Core.Path.{_≡_};
 ghost use Prim.Native.Nat.{_+_, _≤_};
 ghost use lib.ListN.{length};
@@ -74,7 +75,7 @@ pub fn rest_api_url(s: &[u8], c: Cursor) -> UrlRead
     }
 }
 
-// The verdict on an entry that was read from s.
+// The verdict, given what was read of an entry.
 pub fn peer_verdict(s: &[u8], peer: PeerSpec, network: Network) -> u8
     ensures { λ r. ⌜ r ≡ validatePeer network (entryIn (now (s .entry)) peer) ⌝ }
 {
@@ -88,7 +89,7 @@ pub fn peer_verdict(s: &[u8], peer: PeerSpec, network: Network) -> u8
     0
 }
 
-// The REST API URL of an entry that was read from s.
+// The REST API URL, given what was read of an entry.
 pub fn peer_url(s: &[u8], peer: PeerSpec) -> Url
     ensures { λ r. ⌜ url r ≡ entryUrl (entryIn (now (s .entry)) peer) ⌝ }
 {
@@ -98,7 +99,7 @@ pub fn peer_url(s: &[u8], peer: PeerSpec) -> Url
     }
 }
 
-// The first feature with an id among the features of an entry that was read from s.
+// The first feature with an id, given what was read of an entry: its features are read in turn, until one has the id or is refused.
 pub fn find_feature(s: &[u8], features: Features, id: u8) -> Found
     ensures { λ r. ⌜ found r ≡ firstIn id (featuresFrom (features .count) (now (s .entry)) (features .start)) ⌝ }
 {
