@@ -2,22 +2,17 @@
 -- before it.
 use Prim.Native.Nat.{ℕ, zero, suc, _+_, _≤_, _<_}
 use native.Mathlib.Omega.{arith}
-use mathlib.Core.Bool.{Bool, true, false, cond}
 use mathlib.Core.List.{List, [], _∷_, _++_}
-use mathlib.Core.Option.{some}
 use mathlib.Core.Path.{_≡_, refl, ap, sym, _∙_}
-use lib.Dec.{eqb}
 use lib.ListN.{length}
 use Rattle.wire.specs.Reader.{Answer, got, refused, bind, pure, andThen, place, byte, Segment, listOf}
 use Rattle.wire.specs.AnswerLaws.{bind-got, bind-step, bind-twice}
-use Rattle.wire.specs.ListOfLaws.{Listed, end, next, listed, Indexed, indexed}
-use Rattle.wire.specs.ReadsBack.{Placed}
+use Rattle.wire.specs.ListOfLaws.{Listed, listed, Indexed, indexed}
 use Rattle.vlq.specs.ShortString.{shortString}
 use Rattle.types.specs.declared.Version.{Version}
 use Rattle.types.specs.declared.Address.{Address}
 use Rattle.handshake.specs.Entry.{version, addressIf, EntryFeature, feature, Entry, entry}
 use Rattle.handshake.specs.PlacesLaws.{gives-feature, gives-entry}
-use Rattle.handshake.specs.Verdict.{firstFeature}
 use Rattle.handshake_address_read.specs.DeclaredAddress.{declaredAddress}
 use Rattle.handshake_read.specs.Parts.{EntryHead, head, EntryFeatures, features, nth, featureAt}
 
@@ -123,17 +118,6 @@ entry-read s at {e} {next} q =
 
 pub entry-listed : (s : List ℕ) (at : ℕ) {e : Entry} {next : ℕ} → entry s at ≡ got e next → Listed (λ before. feature) s [] (e .first) (e .features) next
 entry-listed s at {e} q = listed (λ before. feature) s (length (e .features)) (e .first) (entry-read s at q) .1
-
--- the body of the first feature with an id stands in s
-pub first-placed : (s : List ℕ) (id : ℕ) {before : List EntryFeature} {at e : ℕ} {l : List EntryFeature} → Listed (λ before. feature) s before at l e
-    → {f : EntryFeature} → firstFeature id l ≡ some f → Placed s (f .body)
-unfolding firstFeature
-first-placed s id end q = let z : _≡_ {A = ℕ} 0 1 = cc in absurd (omega arith)
-first-placed s id (next {n = n} {a = g} {l = fs} h rest) {f} q = go (eqb (g .id) id) q (λ r. first-placed s id rest r)
-  where
-    go : (b : Bool) → cond b (some g) (firstFeature id fs) ≡ some f → (firstFeature id fs ≡ some f → Placed s (f .body)) → Placed s (f .body)
-    go true q k = let u : g ≡ f = cc in rw (← u) (gives-feature .holds g n h .0)
-    go false q k = k q
 
 -- the feature with an index inside is read after those before it
 nth-among : (before : List EntryFeature) (f : EntryFeature) (rest : List EntryFeature)

@@ -1,10 +1,10 @@
--- The URL from the places of the feature that was found, and from the short string that was read within its body.
+-- The URL from the first feature 4, by its places, and from the short string that was read within its body.
 use Prim.Native.Nat.{ℕ, _+_, _-_, _≤_}
 use native.Mathlib.Omega.{arith}
 use mathlib.Core.Bool.{Bool, true, false}
 use mathlib.Core.List.{List}
 use mathlib.Core.Option.{Option, none, some}
-use mathlib.Core.Path.{_≡_, _∙_}
+use mathlib.Core.Path.{_≡_}
 use lib.ListN.{length, take, drop}
 use Rattle.wire.specs.declared.Part.{Part}
 use Rattle.wire.specs.Reader.{got, refused, andThen, Segment, byte, part, guard}
@@ -15,13 +15,12 @@ use Rattle.vlq.specs.ShortString.{string, shortString}
 use Rattle.handshake.specs.Entry.{Entry}
 use Rattle.handshake.specs.Verdict.{firstFeature, stringFrom, urlOf, restApiUrl}
 use Rattle.handshake_read.specs.declared.Feature.{Feature}
-use Rattle.handshake_verdict.specs.declared.Found.{Found}
-use Rattle.handshake_verdict.specs.declared.Found.the-variants.{At}
-use Rattle.handshake_verdict.specs.Answers.{partIfAny, entryUrl, foundIn, Inside}
-use Rattle.handshake_verdict.proofs.FoundLaws.{FoundFirst}
+use Rattle.handshake_verdict.specs.Answers.{partIfAny, entryUrl}
+use Rattle.handshake_verdict.specs.Peer.{segmentIn}
+use Rattle.handshake_verdict.proofs.FoundLaws.{FoundAt}
 
 -- a short string starts within the bytes
-pub short-string-inside : (s : List ℕ) (at : ℕ) {g : Segment} {next : ℕ} → shortString s at ≡ got g next → g .start ≤ length s
+short-string-inside : (s : List ℕ) (at : ℕ) {g : Segment} {next : ℕ} → shortString s at ≡ got g next → g .start ≤ length s
 unfolding shortString string
 short-string-inside s at {g} {next} q =
     let a = bind-got (byte s at) (λ n m. andThen (part n) (λ g. guard (utf8 (g .bytes)) 4 g) s m) q in
@@ -33,26 +32,33 @@ short-string-inside s at {g} {next} q =
     go true h m q k = let e : h ≡ g = cc in rw (← e) k
     go false h m q k = no-answer q
 
-module _ (s : List ℕ) (f : Feature) where
+-- the string within the body p of s
+abbrev pub stringIn : List ℕ → Part → Option Part
+stringIn s p = partIfAny (stringFrom (p .start) (shortString (segmentIn s p .bytes) 0))
+
+module _ (s : List ℕ) (p : Part) where
   -- the code's part ends at start + len, so its length is written start + len - start
   abbrev pub body : List ℕ
-  body = take (f .body .start + f .body .len - f .body .start) (drop (f .body .start) s)
+  body = take (p .start + p .len - p .start) (drop (p .start) s)
 
-  pub url-start : Inside (length s) (At f) → {g : Segment} {next : ℕ} → shortString body 0 ≡ got g next → f .body .start + g .start ≤ length s
+  pub url-start : p .start + p .len ≤ length s → {g : Segment} {next : ℕ} → shortString body 0 ≡ got g next → p .start + g .start ≤ length s
   url-start h q =
-      let z : f .body .start + f .body .len - f .body .start ≡ f .body .len = omega arith in
-      omega (arith, rw (z, length-part (f .body .len) s (f .body .start) h) at (short-string-inside body 0 q))
+      let z : p .start + p .len - p .start ≡ p .len = omega arith in
+      omega (arith, rw (z, length-part (p .len) s (p .start) h) at (short-string-inside body 0 q))
 
-  pub url-found : {g : Segment} {next : ℕ} → shortString body 0 ≡ got g next
-      → some (record { start = f .body .start + g .start; len = length (g .bytes) }) ≡ partIfAny (urlOf (foundIn s (At f)))
-  unfolding urlOf stringFrom
-  url-found q = let z : f .body .start + f .body .len - f .body .start ≡ f .body .len = omega arith in rw (rw z at q)
+  pub url-found : {g : Segment} {next : ℕ} → shortString body 0 ≡ got g next → some (record { start = p .start + g .start; len = length (g .bytes) }) ≡ stringIn s p
+  unfolding stringFrom
+  url-found q = let z : p .start + p .len - p .start ≡ p .len = omega arith in rw (rw z at q)
 
-  pub url-none : {m : ℕ} → shortString body 0 ≡ refused m → none ≡ partIfAny (urlOf (foundIn s (At f)))
-  unfolding urlOf stringFrom
-  url-none q = let z : f .body .start + f .body .len - f .body .start ≡ f .body .len = omega arith in rw (rw z at q)
+  pub url-refused : {m : ℕ} → shortString body 0 ≡ refused m → none ≡ stringIn s p
+  unfolding stringFrom
+  url-refused q = let z : p .start + p .len - p .start ≡ p .len = omega arith in rw (rw z at q)
 
--- from what was read of an entry to the entry
-pub url-read : (s : List ℕ) (x : Entry) {first : Found} {u : Option Part} → FoundFirst s first (firstFeature 4 (x .features)) → u ≡ partIfAny (urlOf (foundIn s first)) → u ≡ entryUrl x
-unfolding restApiUrl
-url-read s x f q = q ∙ rw (f .same)
+module _ (s : List ℕ) (x : Entry) where
+  pub url-at : (f : Feature) → FoundAt s f (firstFeature 4 (x .features)) → stringIn s (f .body) ≡ entryUrl x
+  unfolding restApiUrl urlOf
+  url-at f found = rw (found .same)
+
+  pub url-none : firstFeature 4 (x .features) ≡ none → none ≡ entryUrl x
+  unfolding restApiUrl urlOf
+  url-none q = rw q

@@ -1,22 +1,27 @@
-// What a handshake or an entry says of the peer: the verdict on it, and its REST API URL (transport/handshake.rs).
+// What a handshake or an entry says of the peer: the verdict on it, and its REST API URL (transport/handshake.rs). Each is read from the bytes, or
+// found from what was read of them already.
 ghost use mathlib.Core.Path.{_≡_};
+ghost use Prim.Native.Nat.{_+_, _≤_};
 ghost use lib.ListN.{length};
-ghost use Rattle.wire.specs.Reader.{mapAnswer, listOf};
-ghost use Rattle.handshake.specs.Entry.{feature, entry, handshake};
-ghost use Rattle.handshake.specs.Verdict.{validatePeer, urlOf};
-ghost use Rattle.handshake_verdict.specs.Answers.{firstIn, handshakeVerdict, entryUrl, partIfAny, verdictOf};
-ghost use Rattle.handshake_verdict.specs.Answers.{found, orThis, foundIn, Inside, firstAnswer, verdictAnswer, url, urlAnswer};
+ghost use Rattle.wire.specs.Reader.{mapAnswer};
+ghost use Rattle.handshake.specs.Entry.{entry, handshake};
+ghost use Rattle.vlq.specs.ShortString.{shortString};
+ghost use Rattle.handshake.specs.Verdict.{firstFeature, otherMagic, validatePeer, stringFrom};
+ghost use Rattle.handshake_verdict.specs.Peer.{featuresFrom, segmentIn, entryIn};
+ghost use Rattle.handshake_verdict.specs.Answers.{firstIn, handshakeVerdict, entryUrl, partIfAny};
+ghost use Rattle.handshake_verdict.specs.Answers.{found, verdictAnswer, url, urlAnswer};
 use handshake::FEATURE_REST_API;
 use handshake::FEATURE_SESSION;
 use handshake_read::EntryRead;
 use handshake_read::Feature;
 use handshake_read::FeatureRead;
 use handshake_read::Features;
+use handshake_read::HandshakeRead;
+use handshake_read::PeerSpec;
 use types::Network;
 use types::Version;
 use vlq::Cursor;
 use vlq::PartRead;
-use vlq::VlqRead;
 use wire::Part;
 
 pub enum VerdictRead {
@@ -35,24 +40,18 @@ pub enum UrlRead {
 }
 
 // The first feature with some id.
-enum Found {
+pub enum Found {
     At(Feature),
     None,
-}
-
-enum FirstRead {
-    Value(Found, Cursor),
-    Refused(u8),
 }
 
 // The verdict on a handshake: 1 if its version is below 4.0.100; else 2 if its first feature 3 has another magic; else 0.
 pub fn validate_peer(s: &[u8], network: Network) -> VerdictRead
     ensures { λ r. ⌜ verdictAnswer r ≡ mapAnswer (handshakeVerdict network) (handshake (now (s .entry)) 0) ⌝ }
 {
-    let c = Cursor { at: 0 };
-    match c.read_vlq(s) {
-        VlqRead::Value(timestamp, d) => validate_entry(s, d, network),
-        VlqRead::Refused(m) => VerdictRead::Refused(m),
+    match handshake_read::parse(s) {
+        HandshakeRead::Value(h, end) => VerdictRead::Value(peer_verdict(s, h.peer, network), end),
+        HandshakeRead::Refused(m) => VerdictRead::Refused(m),
     }
 }
 
@@ -61,13 +60,7 @@ pub fn validate_entry(s: &[u8], c: Cursor, network: Network) -> VerdictRead
     ensures { λ r. ⌜ verdictAnswer r ≡ mapAnswer (validatePeer network) (entry (now (s .entry)) (c .at)) ⌝ }
 {
     match handshake_read::parse_peer_entry(s, c) {
-        EntryRead::Value(peer, e) => match read_first(s, peer.features, FEATURE_SESSION) {
-            FirstRead::Value(first, f) => VerdictRead::Value(
-                verdict(s, peer.version, first, network),
-                e,
-            ),
-            FirstRead::Refused(m) => VerdictRead::Refused(m),
-        },
+        EntryRead::Value(peer, end) => VerdictRead::Value(peer_verdict(s, peer, network), end),
         EntryRead::Refused(m) => VerdictRead::Refused(m),
     }
 }
@@ -77,91 +70,85 @@ pub fn rest_api_url(s: &[u8], c: Cursor) -> UrlRead
     ensures { λ r. ⌜ urlAnswer r ≡ mapAnswer entryUrl (entry (now (s .entry)) (c .at)) ⌝ }
 {
     match handshake_read::parse_peer_entry(s, c) {
-        EntryRead::Value(peer, e) => match read_first(s, peer.features, FEATURE_REST_API) {
-            FirstRead::Value(first, f) => UrlRead::Value(url_of(s, first), e),
-            FirstRead::Refused(m) => UrlRead::Refused(m),
-        },
+        EntryRead::Value(peer, end) => UrlRead::Value(peer_url(s, peer), end),
         EntryRead::Refused(m) => UrlRead::Refused(m),
     }
 }
 
-// The first of some features with an id. Those of an entry that was read are all there, so that it is not refused.
-fn read_first(s: &[u8], features: Features, id: u8) -> FirstRead
-    ensures { λ r. ⌜ firstAnswer r ≡ mapAnswer (firstIn id) (listOf (features .count) (λ before. feature) (now (s .entry)) (features .start)) ⌝ }
+// The verdict, given what was read of an entry.
+pub fn peer_verdict(s: &[u8], peer: PeerSpec, network: Network) -> u8
+    ensures { λ r. ⌜ r ≡ validatePeer network (entryIn (now (s .entry)) peer) ⌝ }
+{
+    let version = peer.version;
+    if version.lt(Version::eip37_min()) {
+        return 1;
+    }
+    if other_magic(s, peer.features, network) {
+        return 2;
+    }
+    0
+}
+
+// The REST API URL, given what was read of an entry.
+pub fn peer_url(s: &[u8], peer: PeerSpec) -> Url
+    ensures { λ r. ⌜ url r ≡ entryUrl (entryIn (now (s .entry)) peer) ⌝ }
+{
+    match find_feature(s, peer.features, FEATURE_REST_API) {
+        Found::At(f) => read_url(s, f.body),
+        Found::None => Url::None,
+    }
+}
+
+// The first feature with an id, given what was read of an entry: its features are read in turn, until one has the id or is refused.
+pub fn find_feature(s: &[u8], features: Features, id: u8) -> Found
+    ensures { λ r. ⌜ found r ≡ firstIn id (featuresFrom (features .count) (now (s .entry)) (features .start)) ⌝ }
 {
     let n = features.count;
     let mut d = Cursor { at: features.start };
-    let mut first = Found::None;
     let mut i: u8 = 0;
     while i < n {
         match handshake_read::read_feature(s, d) {
             FeatureRead::Value(f, e) => {
-                first = first_of(first, f, id);
+                if f.id == id {
+                    return Found::At(f);
+                }
                 d = e;
                 i += 1;
             }
-            FeatureRead::Refused(m) => return FirstRead::Refused(m),
+            FeatureRead::Refused(m) => return Found::None,
         }
     }
-    FirstRead::Value(first, d)
+    Found::None
 }
 
-// What was found before, or this feature if it has the id.
-fn first_of(first: Found, f: Feature, id: u8) -> Found
-    ensures { λ r. ⌜ found r ≡ orThis id f (found first) ⌝ }
+// Is the first feature 3 of at least four bytes, and are the first four not the magic?
+fn other_magic(s: &[u8], features: Features, network: Network) -> bool
+    ensures { λ r. ⌜ r ≡ otherMagic network (firstFeature 3 (featuresFrom (features .count) (now (s .entry)) (features .start))) ⌝ }
 {
-    match first {
-        Found::At(g) => Found::At(g),
-        Found::None => {
-            if f.id == id {
-                Found::At(f)
-            } else {
-                Found::None
-            }
-        }
-    }
-}
-
-fn verdict(s: &[u8], version: Version, first: Found, network: Network) -> u8
-    requires { ⌜ Inside (length (now s)) first ⌝ }
-    ensures { λ r. ⌜ r ≡ verdictOf network version (foundIn (now (s .entry)) first) ⌝ }
-{
-    if version.lt(Version::eip37_min()) {
-        return 1;
-    }
-    match first {
+    match find_feature(s, features, FEATURE_SESSION) {
         Found::At(f) => {
             if f.body.len < 4 {
-                return 0;
+                return false;
             }
-            if wire::stands_at(s, f.body.start, network.magic()) {
-                0
-            } else {
-                2
-            }
+            !wire::stands_at(s, f.body.start, network.magic())
         }
-        Found::None => 0,
+        Found::None => false,
     }
 }
 
 // A length byte and that much UTF-8 within the body of a feature.
-fn url_of(s: &[u8], first: Found) -> Url
-    requires { ⌜ Inside (length (now s)) first ⌝ }
-    ensures { λ r. ⌜ url r ≡ partIfAny (urlOf (foundIn (now (s .entry)) first)) ⌝ }
+fn read_url(s: &[u8], body: Part) -> Url
+    requires { ⌜ body .start + body .len ≤ length (now s) ⌝ }
+    ensures { λ r. ⌜ url r ≡ partIfAny (stringFrom (body .start) (shortString (segmentIn (now (s .entry)) body .bytes) 0)) ⌝ }
 {
-    match first {
-        Found::At(f) => {
-            let start = f.body.start;
-            let end = start + f.body.len;
-            let c = Cursor { at: 0 };
-            match c.read_short_string(&s[start..end]) {
-                PartRead::Value(p, d) => Url::At(Part {
-                    start: start + p.start,
-                    len: p.len,
-                }),
-                PartRead::Refused(m) => Url::None,
-            }
-        }
-        Found::None => Url::None,
+    let start = body.start;
+    let end = start + body.len;
+    let c = Cursor { at: 0 };
+    match c.read_short_string(&s[start..end]) {
+        PartRead::Value(p, d) => Url::At(Part {
+            start: start + p.start,
+            len: p.len,
+        }),
+        PartRead::Refused(m) => Url::None,
     }
 }

@@ -74,43 +74,33 @@ enum EndRead {
 pub fn from_frame(code: u8, body: &[u8], cap: usize, network: Network) -> MessageRead
     ensures { λ r. ⌜ messageAnswer r ≡ mapAnswer (messageOf network (now (body .entry))) (message cap code (now (body .entry)) 0) ⌝ }
 {
-    if code == GET_PEERS {
-        return MessageRead::Value(Message::GetPeers, BodyPlace(0));
-    }
-    if code == PEERS {
-        return match parse_peers_body(body, cap, network) {
+    match code {
+        GET_PEERS => MessageRead::Value(Message::GetPeers, BodyPlace(0)),
+        PEERS => match parse_peers_body(body, cap, network) {
             PeersRead::Value(peers, end) => MessageRead::Value(Message::Peers(peers), end),
             PeersRead::Refused(m) => MessageRead::Refused(m),
-        };
-    }
-    if code == MODIFIER_REQUEST {
-        return match messages_inventory_read::parse_inv_body(body) {
+        },
+        INV => match messages_inventory_read::parse_inv_body(body) {
+            InventoryRead::Value(ids, end) => MessageRead::Value(Message::Inv(ids), end),
+            InventoryRead::Refused(m) => MessageRead::Refused(m),
+        },
+        MODIFIER_REQUEST => match messages_inventory_read::parse_inv_body(body) {
             InventoryRead::Value(ids, end) => MessageRead::Value(
                 Message::ModifierRequest(ids),
                 end,
             ),
             InventoryRead::Refused(m) => MessageRead::Refused(m),
-        };
-    }
-    if code == MODIFIER_RESPONSE {
-        return match messages_inventory_read::parse_modifier_response_body(body) {
+        },
+        MODIFIER_RESPONSE => match messages_inventory_read::parse_modifier_response_body(body) {
             InventoryRead::Value(payloads, end) => MessageRead::Value(
                 Message::ModifierResponse(payloads),
                 end,
             ),
             InventoryRead::Refused(m) => MessageRead::Refused(m),
-        };
+        },
+        SYNC_INFO => MessageRead::Value(Message::SyncInfo, BodyPlace(body.len())),
+        _ => MessageRead::Value(Message::Unknown, BodyPlace(body.len())),
     }
-    if code == INV {
-        return match messages_inventory_read::parse_inv_body(body) {
-            InventoryRead::Value(ids, end) => MessageRead::Value(Message::Inv(ids), end),
-            InventoryRead::Refused(m) => MessageRead::Refused(m),
-        };
-    }
-    if code == SYNC_INFO {
-        return MessageRead::Value(Message::SyncInfo, BodyPlace(body.len()));
-    }
-    MessageRead::Value(Message::Unknown, BodyPlace(body.len()))
 }
 
 // A Peers body: a count of at most cap, and the entries.

@@ -13,9 +13,11 @@ use Rattle.frame.specs.FrameLaws.{frame-places}
 use Rattle.frame_read.specs.Answers.{frameOf}
 use Rattle.frame_read.specs.declared.Frame.{Frame}
 use Rattle.handshake.specs.Entry.{EntryHandshake, handshake}
+use Rattle.handshake.specs.Verdict.{validatePeer}
 use Rattle.handshake_read.specs.Answers.{handshakeOf}
 use Rattle.handshake_read.specs.declared.Handshake.{Handshake}
-use Rattle.handshake_verdict.specs.Answers.{handshakeVerdict}
+use Rattle.handshake_verdict.specs.Peer.{entryIn}
+use Rattle.handshake_verdict.specs.PeerLaws.{handshake-again}
 use Rattle.messages.specs.Message.{Message, message}
 use Rattle.messages_read.specs.Answers.{messageOf}
 use Rattle.messages_read.specs.declared.Message as Given
@@ -29,14 +31,11 @@ use Rattle.walk_read.specs.Steps.{streamPlace, itemOf, stepOf, openedSte
 -- ---- the handshake
 
 module _ (network : Network) (s : List ℕ) where
-  pub handshake-read : {h h′ : EntryHandshake} {e e′ v : ℕ} {given : Handshake}
-      → handshake s 0 ≡ got h e → handshakeOf h ≡ given → handshake s 0 ≡ got h′ e′ → handshakeVerdict network h′ ≡ v
+  pub handshake-read : {h : EntryHandshake} {e v : ℕ} {given : Handshake}
+      → handshake s 0 ≡ got h e → handshakeOf h ≡ given → v ≡ validatePeer network (entryIn s (given .peer))
       → StepReads.Handshake (record { start = streamPlace 0; end = streamPlace e; handshake = given; verdict = v }) ≡ stepOf network s (stepTo 0 (handshakeAt network s))
   unfolding stepOf itemOf stepTo handshakeAt handshakeItem
-  handshake-read {h} {h′} {e} {e′} p q p′ q′ =
-      let z : got h′ e′ ≡ got h e = sym p′ ∙ p in
-      let y : h′ ≡ h = cc in
-      rw (p, ← q, ← q′, y)
+  handshake-read p q v = rw (p, v, handshake-again s p q, q)
 
   pub handshake-refused : {m : ℕ} → handshake s 0 ≡ refused m
       → StepReads.Stop (record { layer = Layers.Handshake; number = m; start = streamPlace 0 }) ≡ stepOf network s (stepTo 0 (handshakeAt network s))

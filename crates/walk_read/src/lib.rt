@@ -11,7 +11,6 @@ use frame_read::FrameRead;
 use frame_read::StreamPart;
 use handshake_read::Handshake;
 use handshake_read::HandshakeRead;
-use handshake_verdict::VerdictRead;
 use messages_read::Message;
 use messages_read::MessageRead;
 use types::Network;
@@ -80,22 +79,16 @@ fn handshake_step(s: &[u8], network: Network) -> StepRead
 {
     let start = StreamPlace(0);
     match handshake_read::parse(s) {
-        HandshakeRead::Value(handshake, c) => match handshake_verdict::validate_peer(s, network) {
-            VerdictRead::Value(verdict, d) => {
-                let end = StreamPlace(c.at);
-                StepRead::Handshake(HandshakeItem {
-                    start,
-                    end,
-                    handshake,
-                    verdict,
-                })
-            }
-            VerdictRead::Refused(number) => StepRead::Stop(Stop {
-                layer: Layer::Handshake,
-                number,
+        HandshakeRead::Value(handshake, c) => {
+            let verdict = handshake_verdict::peer_verdict(s, handshake.peer, network);
+            let end = StreamPlace(c.at);
+            StepRead::Handshake(HandshakeItem {
                 start,
-            }),
-        },
+                end,
+                handshake,
+                verdict,
+            })
+        }
         HandshakeRead::Refused(number) => StepRead::Stop(Stop {
             layer: Layer::Handshake,
             number,

@@ -62,8 +62,13 @@ pub fn walk(s: &[u8], mainnet: u8, cap: usize) -> Answer {
     }
 }
 
+/// A step's numbers.
+pub fn stepped(s: &[u8], at: usize, mainnet: u8, cap: usize) -> Result<[u64; 11], Answer> {
+    call(|r| unsafe { haspeljo_step(s.as_ptr(), s.len(), mainnet, cap, at, r) })
+}
+
 fn opened(s: &[u8], at: usize, mainnet: u8, cap: usize) -> Result<Opened, Answer> {
-    let r = call(|r| unsafe { haspeljo_step(s.as_ptr(), s.len(), mainnet, cap, at, r) })?;
+    let r = stepped(s, at, mainnet, cap)?;
     match r {
         [END, 0, 0, 0, 0, 0, 0, 0, 0, 0, 0] => Ok(Err(Value::Word("end"))),
         [HANDSHAKE, start, end, verdict, 0, 0, 0, 0, 0, 0, 0] => handshake(s, start, end, verdict),

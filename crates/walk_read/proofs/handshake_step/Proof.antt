@@ -3,7 +3,6 @@ use mathlib.Core.Path.{sym, ap, _∙_}
 use denote.Ref.{now}
 use Rattle.wire.specs.ReaderLaws.{map-got, map-refused}
 use Rattle.handshake_read.specs.Answers.{handshakeOf, handshakeAnswer}
-use Rattle.handshake_verdict.specs.Answers.{handshakeVerdict, verdictAnswer}
 use Rattle.walk_read.specs.StepsLaws.{handshake-read, handshake-refused}
 use borrow.Author.Needs.{needs}
 use Rattle.walk_read.proofs.handshake_step.Statement.{statement}
@@ -11,20 +10,14 @@ use Rattle.walk_read.proofs.handshake_step.Tie as tie
 
 returns : tie.Need-returns
 returns c =
-    let a = c .before .before .before .before .before .before .before .before .before .args in
-    let e = map-got handshakeOf (sym (c .before .before .before .before .before .before .before .parse .ensures) ∙ ap handshakeAnswer (c .before .before .before .before .before .handshake .given .1)) in
-    let f = map-got (handshakeVerdict (a .network)) (sym (c .before .before .before .validate-peer .ensures) ∙ ap verdictAnswer (c .before .verdict .given .1)) in
-    handshake-read (a .network) (now (a .s)) (e .1) (e .2) (f .1) (f .2)
+    let a = c .before .before .before .before .before .before .args in
+    let e = map-got handshakeOf (sym (c .before .before .before .before .parse .ensures) ∙ ap handshakeAnswer (c .before .before .handshake .given .1)) in
+    handshake-read (a .network) (now (a .s)) (e .1) (e .2) (c .peer-verdict .ensures)
 
 returns-2 : tie.Need-returns-2
 returns-2 c =
-    let a = c .before .before .before .before .before .before .before .before .before .args in
-    handshake-refused (a .network) (now (a .s)) (map-refused (handshakeVerdict (a .network)) (sym (c .before .before .before .validate-peer .ensures) ∙ ap verdictAnswer (c .before .number .given .1)))
-
-returns-3 : tie.Need-returns-3
-returns-3 c =
     let a = c .before .before .before .before .before .args in
-    handshake-refused (a .network) (now (a .s)) (map-refused handshakeOf (sym (c .before .before .before .parse .ensures) ∙ ap handshakeAnswer (c .before .number2 .given .1)))
+    handshake-refused (a .network) (now (a .s)) (map-refused handshakeOf (sym (c .before .before .before .parse .ensures) ∙ ap handshakeAnswer (c .before .number .given .1)))
 
 pub handshake-step-spec : {M : Type 1} → statement M
 handshake-step-spec =
@@ -34,8 +27,5 @@ handshake-step-spec =
     (λ c. search needs)
     (λ c κs. search needs)
     (λ c. search needs)
-    (λ c. search needs)
-    (λ c. search needs)
     returns
-    returns-2
-    returns-3)
+    returns-2)

@@ -4,6 +4,7 @@ use crate::rows::{Row, Side, HALF};
 use crate::values::{self, ENTRIES, MAINNET};
 use oracle::ours::entries::{entry_at, parsed};
 use oracle::ours::messages::{opened, payload_at};
+use oracle::ours::sessions::stepped;
 use oracle::{hashes, ours};
 use p2p::protocol::address_sanity::is_bogus_address;
 use p2p::protocol::messages::{build_peers_body, parse_peers_body, ProtocolMessage};
@@ -19,6 +20,7 @@ pub fn rows() -> Vec<Row> {
         hash("hash of 16 MiB", [1.12, 1.0], 16 << 20, 1),
         hash("hash of 100 bytes", [1.0, 1.0], 100, 20_000),
         handshake(20_000),
+        first_step(20_000),
         peers(400),
         inv(2_000),
         response(1),
@@ -76,6 +78,25 @@ fn handshake(calls: usize) -> Row {
     let bytes = (values::handshake().rust)();
     let [ours, rust] = both::<[u8]>(calls, bytes, |s| keep(parsed(s)), |s| keep(parse(s)));
     Row::plain("parse of a handshake", HALF, ours, rust)
+}
+
+/// The step at place 0, with the verdict.
+fn first_step(calls: usize) -> Row {
+    let bytes = (values::handshake().rust)();
+    let ours = |s: &[u8]| {
+        let [kind, _, end, verdict, ..] = stepped(s, 0, MAINNET, ENTRIES).expect("a step");
+        assert_eq!(black_box([kind, end, verdict]), [1, s.len() as u64, 0]);
+    };
+    let rust = |s: &[u8]| assert_eq!(first_end(s), s.len());
+    let [ours, rust] = both::<[u8]>(calls, bytes, ours, rust);
+    Row::plain("first step of a session", HALF, ours, rust)
+}
+
+/// The first step put together from the Rust's functions: where the handshake ends.
+fn first_end(s: &[u8]) -> usize {
+    let spec = parse(s).expect("a handshake");
+    black_box(validate_peer(&spec, &Network::Mainnet).is_ok());
+    measure_size(s).expect("a handshake")
 }
 
 /// A body of Peers, of which our side reads entry after entry.
@@ -158,9 +179,7 @@ fn session(name: &'static str, length: usize, calls: usize) -> Row {
 
 /// The walk put together from the Rust's functions: how many items there are.
 fn items(s: &[u8]) -> u64 {
-    let spec = parse(s).expect("a handshake");
-    black_box(validate_peer(&spec, &Network::Mainnet).is_ok());
-    let mut at = measure_size(s).expect("a handshake");
+    let mut at = first_end(s);
     let mut count = 1;
     while at < s.len() {
         let frame = decode(&Network::Mainnet.magic(), &s[at..]).expect("a frame");
