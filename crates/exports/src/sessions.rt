@@ -3,7 +3,7 @@ ghost use mathlib.Core.Path.{_≡_};
 ghost use Rattle.walk.specs.Session.{sessionStep};
 ghost use Rattle.walk_read.specs.Steps.{stepOf};
 ghost use Rattle.export_arrays.specs.Networks.{networkOf};
-ghost use Rattle.export_arrays.specs.Steps.{stepNumber, stepAfter};
+ghost use Rattle.export_arrays.specs.Steps.{StepLeaves};
 use types::StreamPlace;
 
 // The step at a place of a session. r is
@@ -20,8 +20,8 @@ pub extern "C" fn haspeljo_step(
     at: usize,
     r: &mut [u64; 11],
 ) -> u8
-    ensures { λ n. ⌜ n ≡ stepNumber (stepOf (networkOf mainnet) (now (s .entry)) (sessionStep (networkOf mainnet) cap (now (s .entry)) at)) ⌝ }
-    ensures { λ n. ⌜ now (r .exit) ≡ stepAfter (stepOf (networkOf mainnet) (now (s .entry)) (sessionStep (networkOf mainnet) cap (now (s .entry)) at)) (now (r .entry)) ⌝ }
+    ensures { λ n. ⌜ StepLeaves (stepOf (networkOf mainnet) (now (s .entry)) (sessionStep (networkOf mainnet) cap (now (s .entry)) at)) n
+        (now (r .entry)) (now (r .exit)) ⌝ }
 {
     let step = walk_read::step(s, crate::network_of(mainnet), cap, StreamPlace(at));
     export_arrays::steps::step_result(step, r)
