@@ -119,6 +119,31 @@ pub fn with<const N: usize>(kind: Kind, slot: usize, numbers: fn(&Case) -> [u64;
     Kind { name: kind.name, cases }
 }
 
+/// Each case of a kind, changed.
+pub fn changed(kind: Kind, change: fn(&mut Case)) -> Kind {
+    let cases = match kind.cases {
+        Cases::Every(total, nth) => {
+            let each = move |i: u64, case: &mut Case| {
+                *case = Case::default();
+                nth(i, case);
+                change(case);
+            };
+            Cases::Every(total, Box::new(each))
+        }
+        Cases::Random(count, make) => {
+            let each = move |rng: &mut Rng, visit: Visit| {
+                make(rng, &mut |case| {
+                    let mut copy = case.clone();
+                    change(&mut copy);
+                    visit(&copy);
+                })
+            };
+            Cases::Random(count, Box::new(each))
+        }
+    };
+    Kind { name: kind.name, cases }
+}
+
 /// Each case of a kind on both networks; mainnet is any number but 0.
 pub fn networks(kind: Kind, slot: usize) -> Kind {
     with(kind, slot, |case| [0, [1, 1, 2, 255][case.bytes.len() % 4]])

@@ -5,7 +5,7 @@
  * were. mainnet is 0 for testnet, any other number for mainnet. at is a place, counted from the slice's first byte.
  *
  * A place in the stream and a place in a message body are different things: a body begins at the place that haspeljo_decode or haspeljo_step
- * gives. */
+ * gives. The functions whose names end in _by_index give places in the body, those in _in_stream places in the stream. */
 #ifndef HASPELJO_H
 #define HASPELJO_H
 
@@ -187,6 +187,18 @@ uint8_t haspeljo_payload_by_index(const uint8_t *body, size_t n, size_t index, u
  * HASPELJO_STEP_STOP, start of the item, layer, refusal number, seven zeros.
  * Refuses 12. */
 uint8_t haspeljo_step(const uint8_t *s, size_t n, uint8_t mainnet, size_t cap, size_t at, uint64_t r[11]);
+
+/* By index from a message of a session: start and length are its body's, as haspeljo_step gives them, and every place in r is a place in the
+ * session. Each call reads the body anew. */
+
+/* An entry of a Peers message. r: as haspeljo_parse_peer_entry. Refuses 12 for a body outside; then as haspeljo_entry_by_index. */
+uint8_t haspeljo_entry_in_stream(const uint8_t *s, size_t n, size_t start, size_t length, size_t cap, size_t index, uint64_t r[15]);
+
+/* An id of a ModifierRequest or Inv message. r: its place. Refuses 12 for a body outside; then as haspeljo_id_by_index. */
+uint8_t haspeljo_id_in_stream(const uint8_t *s, size_t n, size_t start, size_t length, size_t index, uint64_t r[1]);
+
+/* A payload of a ModifierResponse message. r: as haspeljo_payload_by_index. Refuses 12 for a body outside; then as haspeljo_payload_by_index. */
+uint8_t haspeljo_payload_in_stream(const uint8_t *s, size_t n, size_t start, size_t length, size_t index, uint64_t r[4]);
 
 /* Writers, each from a place of an output. r: the place after what was written.
  *

@@ -4,6 +4,7 @@
 use crate::{Error, HandshakeConfig, Network, ProxyMode};
 use haspeljo_sys::*;
 use std::mem::MaybeUninit;
+use std::ops::Range;
 
 /// The result array of an accepted call.
 fn call<const N: usize>(f: impl FnOnce(&mut [u64; N]) -> u8) -> Result<[u64; N], Error> {
@@ -146,6 +147,32 @@ pub fn read_payload(body: &[u8], at: usize, total: usize) -> Result<[u64; 5], Er
 
 pub fn step(s: &[u8], network: Network, cap: usize, at: usize) -> Result<[u64; 11], Error> {
     call(|r| unsafe { haspeljo_step(s.as_ptr(), s.len(), mainnet(network), cap, at, r) })
+}
+
+/// The place and length of a body that a caller names; 12 for a range that ends before it starts.
+fn body_of(body: Range<usize>) -> Result<(usize, usize), Error> {
+    let length = body.end.checked_sub(body.start).ok_or(Error::Outside)?;
+    Ok((body.start, length))
+}
+
+pub fn entry_in_stream(
+    s: &[u8],
+    body: Range<usize>,
+    cap: usize,
+    index: usize,
+) -> Result<[u64; 15], Error> {
+    let (start, length) = body_of(body)?;
+    call(|r| unsafe { haspeljo_entry_in_stream(s.as_ptr(), s.len(), start, length, cap, index, r) })
+}
+
+pub fn id_in_stream(s: &[u8], body: Range<usize>, index: usize) -> Result<[u64; 1], Error> {
+    let (start, length) = body_of(body)?;
+    call(|r| unsafe { haspeljo_id_in_stream(s.as_ptr(), s.len(), start, length, index, r) })
+}
+
+pub fn payload_in_stream(s: &[u8], body: Range<usize>, index: usize) -> Result<[u64; 4], Error> {
+    let (start, length) = body_of(body)?;
+    call(|r| unsafe { haspeljo_payload_in_stream(s.as_ptr(), s.len(), start, length, index, r) })
 }
 
 /// Tables of entries and of features, beside the buffer that their places are in.

@@ -1,6 +1,7 @@
 //! The session walk.
 
 use crate::{again, calls, part, Error, Handshake, Layer, Message, Network, Stop, Verdict};
+use std::ops::Range;
 
 /// A handshake or a message of a session, with the places where it starts and ends.
 #[derive(Clone, Debug)]
@@ -19,6 +20,14 @@ impl Item<'_> {
     pub fn end(&self) -> usize {
         match *self {
             Item::Handshake { end, .. } | Item::Message { end, .. } => end,
+        }
+    }
+
+    /// Where the body of a message stands in the session's bytes: it ends where the message does.
+    pub fn body_in_stream(&self) -> Option<Range<usize>> {
+        match *self {
+            Item::Handshake { .. } => None,
+            Item::Message { end, body, .. } => Some(end - body.len()..end),
         }
     }
 }

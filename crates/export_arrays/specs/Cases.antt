@@ -20,9 +20,11 @@ use Rattle.walk_read.specs.declared.Layer.{Layer}
 use Rattle.walk_read.specs.declared.Layer.the-variants as Layers
 use Rattle.walk_read.specs.declared.StepRead.{StepRead}
 use Rattle.walk_read.specs.declared.StepRead.the-variants as StepReads
+use Rattle.walk_by_index.specs.declared.StreamEntry.{StreamEntry}
+use Rattle.walk_by_index.specs.declared.StreamPayload.{StreamPayload}
 use Rattle.export_arrays.specs.Networks.{networkOf}
-use Rattle.export_arrays.specs.Entries.{withAddress, handshakeNext, entryNext, featureNext, sizeOnly, urlNext}
-use Rattle.export_arrays.specs.Messages.{messageNumbers, idOnly, payloadNext, payloadTotal}
+use Rattle.export_arrays.specs.Entries.{withAddress, handshakeNext, entryNext, streamEntryNext, featureNext, sizeOnly, urlNext}
+use Rattle.export_arrays.specs.Messages.{messageNumbers, idOnly, payloadNext, payloadTotal, streamIdOnly, streamPayloadNext}
 use Rattle.export_arrays.specs.Steps.{withMessage, layerNumber, stepNumber, stepAfter}
 
 -- what is given, and the row that it must be
@@ -55,6 +57,16 @@ peerAt address =
       features = record { count = 19; start = 20 };
     }
 
+abbrev streamEntry : StreamEntry
+streamEntry =
+    record {
+      agent = record { start = inStream 12; len = 13 };
+      version = record { major = 14; minor = 15; patch = 16 };
+      name = record { start = inStream 17; len = 18 };
+      address = V6 21 22 23;
+      features = record { count = 19; start = inStream 20 };
+    }
+
 abbrev handshakeAt : Address → Handshake
 handshakeAt address = record { timestamp = 11; peer = peerAt address }
 
@@ -72,6 +84,9 @@ entryCases =
     -- an entry has no timestamp
     ∷ case
     (entryNext (peerAt (V6 21 22 23)) 31)
+    (0 ∷ 12 ∷ 13 ∷ 14 ∷ 15 ∷ 16 ∷ 17 ∷ 18 ∷ 6 ∷ 21 ∷ 22 ∷ 23 ∷ 19 ∷ 20 ∷ 31 ∷ [])
+    ∷ case
+    (streamEntryNext streamEntry 31)
     (0 ∷ 12 ∷ 13 ∷ 14 ∷ 15 ∷ 16 ∷ 17 ∷ 18 ∷ 6 ∷ 21 ∷ 22 ∷ 23 ∷ 19 ∷ 20 ∷ 31 ∷ [])
     -- a size
     ∷ case (sizeOnly 11 31) (11 ∷ [])
@@ -95,6 +110,9 @@ inventory = record { kind = 11; count = 12; start = inBody 14 }
 abbrev payload : Payload
 payload = record { id = inBody 11; start = inBody 12; len = 13 }
 
+abbrev streamPayload : StreamPayload
+streamPayload = record { id = inStream 11; bytes = record { start = inStream 12; len = 13 } }
+
 -- type byte, count, bogus count, the place of the first, each 0 where the message has none; the next place
 unfoldable pub messageCases : List Case
 messageCases =
@@ -109,6 +127,8 @@ messageCases =
     ∷ case (idOnly 11 31) (11 ∷ [])
     -- a payload: its id's place, its bytes' place and length, the next place; then the total with it
     ∷ case (payloadNext payload 31) (11 ∷ 12 ∷ 13 ∷ 31 ∷ [])
+    ∷ case (streamIdOnly (inStream 11) 31) (11 ∷ [])
+    ∷ case (streamPayloadNext streamPayload 31) (11 ∷ 12 ∷ 13 ∷ 31 ∷ [])
     ∷ case (payloadTotal (payload, 14) 31) (11 ∷ 12 ∷ 13 ∷ 31 ∷ 14 ∷ [])
     ∷ []
 

@@ -8,6 +8,7 @@ use Rattle.types.specs.declared.Address.the-variants.{None, V4, V6}
 use Rattle.handshake_read.specs.declared.PeerSpec.{PeerSpec}
 use Rattle.handshake_read.specs.declared.Handshake.{Handshake}
 use Rattle.handshake_read.specs.declared.Feature.{Feature}
+use Rattle.walk_by_index.specs.declared.StreamEntry.{StreamEntry}
 
 -- timestamp, agent, version, name, the kind of address with its number and port, features, next place
 abbrev pub entryArray : ℕ → PeerSpec → ℕ → ℕ → ℕ → ℕ → ℕ → List ℕ
@@ -35,6 +36,19 @@ handshakeNext h next = entryNumbers (h .timestamp) (h .peer) next
 -- an entry has no timestamp
 abbrev pub entryNext : PeerSpec → ℕ → List ℕ
 entryNext p next = entryNumbers 0 p next
+
+-- an entry with places in the stream
+abbrev pub streamEntryNext : StreamEntry → ℕ → List ℕ
+streamEntryNext e next =
+    entryNext
+    (record {
+      agent = record { start = e .agent .start .0; len = e .agent .len };
+      version = e .version;
+      name = record { start = e .name .start .0; len = e .name .len };
+      address = e .address;
+      features = record { count = e .features .count; start = e .features .start .0 };
+    })
+    next
 
 abbrev pub featureNext : Feature → ℕ → List ℕ
 featureNext f next = f .id ∷ f .body .start ∷ f .body .len ∷ next ∷ []

@@ -1,10 +1,12 @@
 -- What is given of a message, an id and a payload: their numbers, in a row.
 use Prim.Native.Nat.{ℕ}
 use mathlib.Core.List.{List, [], _∷_}
+use Rattle.types.specs.declared.StreamPlace.{StreamPlace}
 use Rattle.messages_inventory_read.specs.declared.Inventory.{Inventory}
 use Rattle.messages_inventory_read.specs.declared.Payload.{Payload}
 use Rattle.messages_read.specs.declared.Message.{Message}
 use Rattle.messages_read.specs.declared.Message.the-variants.{GetPeers, Peers, ModifierRequest, ModifierResponse, Inv, SyncInfo, Unknown}
+use Rattle.walk_by_index.specs.declared.StreamPayload.{StreamPayload}
 
 abbrev pub noNumbers : ℕ → List ℕ
 noNumbers next = 0 ∷ 0 ∷ 0 ∷ 0 ∷ next ∷ []
@@ -31,3 +33,11 @@ payloadNext p next = p .id .0 ∷ p .start .0 ∷ p .len ∷ next ∷ []
 -- with the payload lengths together
 abbrev pub payloadTotal : Payload × ℕ → ℕ → List ℕ
 payloadTotal p next = p .0 .id .0 ∷ p .0 .start .0 ∷ p .0 .len ∷ next ∷ p .1 ∷ []
+
+-- ---- with places in the stream
+
+abbrev pub streamIdOnly : StreamPlace → ℕ → List ℕ
+streamIdOnly place next = place .0 ∷ []
+
+abbrev pub streamPayloadNext : StreamPayload → ℕ → List ℕ
+streamPayloadNext p next = p .id .0 ∷ p .bytes .start .0 ∷ p .bytes .len ∷ next ∷ []

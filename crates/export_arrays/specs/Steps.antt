@@ -1,6 +1,7 @@
 -- What is given of a step: its numbers, in a row, or 12 for a place past the length.
 use Prim.Native.Nat.{ℕ}
 use mathlib.Core.List.{List, [], _∷_}
+use mathlib.Core.Path.{_≡_}
 use Rattle.messages_read.specs.declared.Message.{Message}
 use Rattle.messages_read.specs.declared.Message.the-variants as Messages
 use Rattle.walk_read.specs.declared.MessageItem.{MessageItem}
@@ -47,3 +48,8 @@ stepAfter (StepReads.Message i) array = messageStep i
 stepAfter StepReads.End array = stepArray 0 0 0 0
 stepAfter (StepReads.Stop t) array = stepArray 3 (t .start .0) (layerNumber (t .layer)) (t .number)
 stepAfter StepReads.Outside array = array
+
+-- of a step n was returned, with the array `before` left as `after`
+pub record StepLeaves (step : StepRead) (n : ℕ) (before after : List ℕ) : Type 0 where
+  pub number : n ≡ stepNumber step
+  pub array : after ≡ stepAfter step before

@@ -1,10 +1,13 @@
 // The numbers of an entry and of a URL.
 ghost use mathlib.Core.Path.{_≡_};
 ghost use Rattle.handshake_verdict.specs.Answers.{url};
-ghost use Rattle.export_arrays.specs.Entries.{entryArray, entryNumbers, urlNext};
+ghost use Rattle.export_arrays.specs.Entries.{entryArray, entryNumbers, urlNext, streamEntryNext};
+use handshake_read::Features;
 use handshake_read::PeerSpec;
 use handshake_verdict::Url;
 use types::Address;
+use walk_by_index::StreamEntry;
+use wire::Part;
 
 pub fn url_numbers(u: Url, next: usize) -> [u64; 4]
     ensures { λ r. ⌜ r ≡ urlNext (url u) next ⌝ }
@@ -24,6 +27,31 @@ pub fn entry_numbers(timestamp: u64, p: PeerSpec, next: usize) -> [u64; 15]
         Address::V4(ip, port) => entry_array(timestamp, p, 4, ip as u64, 0, port, next),
         Address::V6(high, low, port) => entry_array(timestamp, p, 6, high, low, port, next),
     }
+}
+
+// An entry with places in the stream.
+pub fn stream_entry_numbers(e: StreamEntry, next: usize) -> [u64; 15]
+    ensures { λ r. ⌜ r ≡ streamEntryNext e next ⌝ }
+{
+    let version = e.version;
+    let address = e.address;
+    let peer = PeerSpec {
+        agent: Part {
+            start: e.agent.start.0,
+            len: e.agent.len,
+        },
+        version,
+        name: Part {
+            start: e.name.start.0,
+            len: e.name.len,
+        },
+        address,
+        features: Features {
+            count: e.features.count,
+            start: e.features.start.0,
+        },
+    };
+    entry_numbers(0, peer, next)
 }
 
 fn entry_array(

@@ -1,6 +1,6 @@
 // The numbers of a step of a session.
 ghost use mathlib.Core.Path.{_≡_};
-ghost use Rattle.export_arrays.specs.Steps.{stepArray, messageArray, messageStep, stepNumber, stepAfter, layerNumber};
+ghost use Rattle.export_arrays.specs.Steps.{stepArray, messageArray, messageStep, layerNumber, StepLeaves};
 use messages_read::Message;
 use walk_read::Layer;
 use walk_read::MessageItem;
@@ -8,8 +8,7 @@ use walk_read::StepRead;
 
 // 0, with the numbers of the step in r; or 12 for a place past the length, with r as it was.
 pub fn step_result(step: StepRead, r: &mut [u64; 11]) -> u8
-    ensures { λ n. ⌜ n ≡ stepNumber step ⌝ }
-    ensures { λ n. ⌜ now (r .exit) ≡ stepAfter step (now (r .entry)) ⌝ }
+    ensures { λ n. ⌜ StepLeaves step n (now (r .entry)) (now (r .exit)) ⌝ }
 {
     match step {
         StepRead::Handshake(i) => {

@@ -12,21 +12,22 @@ use exports::sessions;
 pub(crate) fn answer(function: u8, s: &[u8], bytes: &[u8]) {
     let a = size(s, 0);
     match function {
-        19 | 30 => one(function, bytes, a),
+        19 | 30 | 47 => one(function, s, bytes, a),
         1..=3 | 23 | 24 => two(function, s, bytes, a),
         4 | 5 => three(function, s, bytes, a),
-        21 | 22 | 25 | 26 | 32 => four(function, s, bytes, a),
+        21 | 22 | 25 | 26 | 32 | 48 => four(function, s, bytes, a),
         27 | 28 | 31 => five(function, s, bytes, a),
         33 => step(s, bytes, a),
         _ => fifteen(function, s, bytes, a),
     }
 }
 
-fn one(function: u8, bytes: &[u8], a: usize) {
+fn one(function: u8, s: &[u8], bytes: &[u8], a: usize) {
     let mut r = [7u64; 1];
     let m = match function {
         19 => handshakes::haspeljo_measure_size(bytes, &mut r),
-        _ => bodies::haspeljo_id_by_index(bytes, a, &mut r),
+        30 => bodies::haspeljo_id_by_index(bytes, a, &mut r),
+        _ => sessions::haspeljo_id_in_stream(bytes, a, size(s, 8), size(s, 16), &mut r),
     };
     result(m, one_number(&r));
 }
@@ -59,7 +60,8 @@ fn four(function: u8, s: &[u8], bytes: &[u8], a: usize) {
         22 => handshakes::haspeljo_feature_by_index(bytes, a, size(s, 8), &mut r),
         25 => handshakes::haspeljo_rest_api_url(bytes, a, &mut r),
         26 => frames::haspeljo_decode(bytes, small(s, 8), a, &mut r),
-        _ => bodies::haspeljo_payload_by_index(bytes, a, &mut r),
+        32 => bodies::haspeljo_payload_by_index(bytes, a, &mut r),
+        _ => sessions::haspeljo_payload_in_stream(bytes, a, size(s, 8), size(s, 16), &mut r),
     };
     result(m, four_numbers(&r));
 }
@@ -85,9 +87,14 @@ fn fifteen(function: u8, s: &[u8], bytes: &[u8], a: usize) {
     let m = match function {
         18 => handshakes::haspeljo_parse(bytes, &mut r),
         20 => handshakes::haspeljo_parse_peer_entry(bytes, a, &mut r),
-        _ => bodies::haspeljo_entry_by_index(bytes, a, size(s, 8), &mut r),
+        29 => bodies::haspeljo_entry_by_index(bytes, a, size(s, 8), &mut r),
+        _ => entry_in_stream(s, bytes, a, &mut r),
     };
     result(m, fifteen_numbers(&r));
+}
+
+fn entry_in_stream(s: &[u8], bytes: &[u8], a: usize, r: &mut [u64; 15]) -> u8 {
+    sessions::haspeljo_entry_in_stream(bytes, a, size(s, 8), size(s, 16), size(s, 24), r)
 }
 
 fn result(m: u8, r: &[u64]) {

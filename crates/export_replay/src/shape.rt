@@ -8,7 +8,7 @@ pub(crate) fn is_input(function: u8, s: &[u8]) -> bool {
 
 // The functions that are exported; `walk` (34) is none of them.
 fn is_function(function: u8) -> bool {
-    (1 <= function) & (function <= 45) & (function != 34)
+    (1 <= function) & (function <= 48) & (function != 34)
 }
 
 // Whether an input of the function may have n bytes.
@@ -31,8 +31,8 @@ fn numbers_end(function: u8) -> usize {
     match function {
         13 | 16..=19 => 0,
         5 | 7 | 8 | 22 | 24 | 26 | 28 | 29 | 31 => 16,
-        6 | 14 | 27 | 33 | 35 | 39 | 44 => 24,
-        15 | 36 | 38 | 40..=43 | 45 => 32,
+        6 | 14 | 27 | 33 | 35 | 39 | 44 | 47 | 48 => 24,
+        15 | 36 | 38 | 40..=43 | 45 | 46 => 32,
         37 => 128,
         _ => 8,
     }

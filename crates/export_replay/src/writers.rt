@@ -52,9 +52,9 @@ fn write(function: u8, s: &[u8], bytes: &[u8], out: &mut [u8], at: usize, r: &mu
 
 fn value(function: u8, s: &[u8], bytes: &[u8], out: &mut [u8], at: usize, r: &mut [u64; 1]) -> u8 {
     match function {
-        6 => exports::haspeljo_write_vlq(out, at, number(s, 16), r),
-        7 => exports::haspeljo_write_short_string(out, at, bytes, r),
-        _ => exports::haspeljo_write_part(out, at, bytes, r),
+        6 => writers::haspeljo_write_vlq(out, at, number(s, 16), r),
+        7 => writers::haspeljo_write_short_string(out, at, bytes, r),
+        _ => writers::haspeljo_write_part(out, at, bytes, r),
     }
 }
 

@@ -2,13 +2,12 @@
 use Prim.Native.Nat.{ℕ, _^_, _<_}
 use mathlib.Core.Bool.{Bool, true, false}
 use mathlib.Core.List.{List}
-use mathlib.Core.Path.{_≡_, refl, ap, _∙_}
+use mathlib.Core.Path.{_≡_, refl, sym, ap, _∙_}
 use borrow.Author.Tests.{ltb-true}
 use lib.Dec.{eqb, ltb}
 use lib.IntN.{ℤ}
 use Rattle.wire.specs.BytesLaws.{and-true}
 use Rattle.wire.specs.Output.{asked, written, outputAfter}
-use Rattle.wire.specs.StandingLaws.{after-refused}
 use Rattle.wire.specs.declared.Written.{Written}
 use Rattle.wire.specs.declared.Written.the-variants.{Refused}
 use Rattle.types.specs.declared.Network.{Network}
@@ -20,9 +19,10 @@ use Rattle.handshake.specs.Writes.{built, builtWritten}
 use Rattle.handshake.specs.Writes as writes
 use Rattle.handshake_build.specs.declared.Config.{Config}
 use Rattle.handshake_build.specs.Parts.{configOf}
-use Rattle.exports.specs.Results.{writtenNumber, endAfter}
+use Rattle.exports.specs.Results.{writtenNumber, endAfter, WriterLeaves}
 use Rattle.exports.specs.Configs.{addressNumbers, builtFromWritten}
-use Rattle.exports.proofs.ExportLaws.{writer-refused}
+use Rattle.exports.specs.Writers.{buildWriter}
+use Rattle.exports.proofs.ExportLaws.{writer-leaves}
 
 -- a Config of these parts
 abbrev pub made : Network → ProxyMode → ℕ → Bool → ℤ → Version → Address → ℕ → ℤ → Config
@@ -68,9 +68,7 @@ module _ (kind high low : ℕ) where
     wrote .1 ∙ ap (λ (c : Config). outputAfter r out at (handshakeBytes (built (configOf c agent name)))) same,
   )
 
-  pub build-refused : addressNumbers kind high low ≡ false → (c : writes.Config) (out : List ℕ) (at : ℕ) (array bs : List ℕ)
-      → (16 ≡ writtenNumber (builtFromWritten kind high low c out at))
-      × ((array ≡ endAfter (builtFromWritten kind high low c out at) array) × (out ≡ outputAfter (builtFromWritten kind high low c out at) out at bs))
-  build-refused fails c out at array bs =
-      let said = asked-no fails c out at in
-      writer-refused array out at bs (refl, after-refused at bs said) said
+  pub build-refused : addressNumbers kind high low ≡ false → (c : writes.Config) (out : List ℕ) (at : ℕ) (array : List ℕ)
+      → WriterLeaves (buildWriter kind high low c) at 16 array array out out
+  unfolding writtenNumber endAfter outputAfter
+  build-refused fails c out at array = writer-leaves (buildWriter kind high low c) at (sym (asked-no fails c out at), refl) (refl, refl)

@@ -5,31 +5,32 @@ use mathlib.Core.Path.{_≡_, refl, sym, ap, _∙_}
 use Rattle.wire.specs.Reader.{Answer, got, refused}
 use Rattle.wire.specs.Output.{outputAfter}
 use Rattle.wire.specs.declared.Written.{Written}
-use Rattle.wire.specs.declared.Written.the-variants.{To, Refused}
 use Rattle.messages_read.specs.declared.Peers.{Peers}
 use Rattle.messages_read.specs.declared.Message.the-variants as Messages
 use Rattle.export_arrays.specs.Messages.{messageNumbers}
-use Rattle.exports.specs.Results.{numberOf, arrayAfter, writtenNumber, endAfter}
+use Rattle.exports.specs.Results.{numberOf, arrayAfter, ReaderLeaves, writtenNumber, endAfter, Writer, WriterLeaves}
 
 -- a reader said r, which means the answer; s is the case that r is, and last is stored in the array
 module _ {R A : Type 0} (meaning : R → Answer A) (values : A → ℕ → List ℕ) (array : List ℕ) {r s : R} {answer : Answer A} (says : meaning r ≡ answer) (is : r ≡ s) where
-  pub reader-got : {a : A} {next : ℕ} {last : List ℕ} → meaning s ≡ got a next → last ≡ values a next → (0 ≡ numberOf answer) × (last ≡ arrayAfter values answer array)
+  pub reader-got : {a : A} {next : ℕ} {last : List ℕ} → meaning s ≡ got a next → last ≡ values a next → ReaderLeaves values answer 0 array last
   unfolding numberOf arrayAfter
-  reader-got means gives = let e = sym says ∙ ap meaning is ∙ means in (rw e, rw e gives)
+  reader-got means gives = let e = sym says ∙ ap meaning is ∙ means in record { number = rw e; array = rw e gives }
 
-  pub reader-refused : {m : ℕ} → meaning s ≡ refused m → (m ≡ numberOf answer) × (array ≡ arrayAfter values answer array)
+  pub reader-refused : {m : ℕ} → meaning s ≡ refused m → ReaderLeaves values answer m array array
   unfolding numberOf arrayAfter
-  reader-refused means = let e = sym says ∙ ap meaning is ∙ means in (rw e, rw e)
+  reader-refused means = let e = sym says ∙ ap meaning is ∙ means in record { number = rw e; array = rw e }
 
--- a writer said r, as its definition does, and left last in the output; its end is stored in the array
-module _ (array out : List ℕ) (at : ℕ) (bs : List ℕ) {said r : Written} {last : List ℕ} (wrote : (r ≡ said) × (last ≡ outputAfter r out at bs)) where
-  pub writer-to : {end : ℕ} → r ≡ To end → (0 ≡ writtenNumber said) × ((end ∷ [] ≡ endAfter said array) × (last ≡ outputAfter said out at bs))
-  unfolding writtenNumber endAfter
-  writer-to is = let e = sym (wrote .0) ∙ is in (rw e, (rw e, rw (wrote .0) at (wrote .1)))
-
-  pub writer-refused : {m : ℕ} → r ≡ Refused m → (m ≡ writtenNumber said) × ((array ≡ endAfter said array) × (last ≡ outputAfter said out at bs))
-  unfolding writtenNumber endAfter
-  writer-refused is = let e = sym (wrote .0) ∙ is in (rw e, (rw e, rw (wrote .0) at (wrote .1)))
+-- a writer said r and left last in the output; of r the number n was returned and the array left
+pub writer-leaves : (w : Writer) (at : ℕ) {r : Written} {n : ℕ} {before after out last : List ℕ}
+    → (r ≡ w .says out at) × (last ≡ outputAfter r out at (w .bytes))
+    → (n ≡ writtenNumber r) × (after ≡ endAfter r before)
+    → WriterLeaves w at n before after out last
+writer-leaves w at wrote result =
+    record {
+      number = rw (← wrote .0) (result .0);
+      array = rw (← wrote .0) (result .1);
+      output = rw (← wrote .0) (wrote .1);
+    }
 
 -- the numbers of a Peers body are those of its message
 pub peers-numbers : (p : Peers) (next : ℕ) → 0 ∷ p .count ∷ p .bogus ∷ p .start .0 ∷ next ∷ [] ≡ messageNumbers (Messages.Peers p) next

@@ -11,7 +11,7 @@ ghost use Rattle.messages_read.specs.Answers.{messageOf};
 ghost use Rattle.export_arrays.specs.Networks.{networkOf};
 ghost use Rattle.export_arrays.specs.Entries.{entryNext};
 ghost use Rattle.export_arrays.specs.Messages.{messageNumbers, idOnly, payloadNext, payloadTotal};
-ghost use Rattle.exports.specs.Results.{numberOf, arrayAfter};
+ghost use Rattle.exports.specs.Results.{ReaderLeaves};
 use export_arrays::bodies::message_numbers;
 use export_arrays::entries::entry_numbers;
 use messages_inventory_read::IdRead;
@@ -32,8 +32,8 @@ pub extern "C" fn haspeljo_from_frame(
     mainnet: u8,
     r: &mut [u64; 5],
 ) -> u8
-    ensures { λ n. ⌜ n ≡ numberOf (mapAnswer (messageOf (networkOf mainnet) (now (body .entry))) (message cap code (now (body .entry)) 0)) ⌝ }
-    ensures { λ n. ⌜ now (r .exit) ≡ arrayAfter messageNumbers (mapAnswer (messageOf (networkOf mainnet) (now (body .entry))) (message cap code (now (body .entry)) 0)) (now (r .entry)) ⌝ }
+    ensures { λ n. ⌜ ReaderLeaves messageNumbers (mapAnswer (messageOf (networkOf mainnet) (now (body .entry))) (message cap code (now (body .entry)) 0)) n
+        (now (r .entry)) (now (r .exit)) ⌝ }
 {
     match messages_read::from_frame(code, body, cap, crate::network_of(mainnet)) {
         MessageRead::Value(m, next) => {
@@ -52,8 +52,8 @@ pub extern "C" fn haspeljo_parse_peers_body(
     mainnet: u8,
     r: &mut [u64; 5],
 ) -> u8
-    ensures { λ n. ⌜ n ≡ numberOf (mapAnswer (messageOf (networkOf mainnet) (now (body .entry))) (peersBody cap (now (body .entry)) 0)) ⌝ }
-    ensures { λ n. ⌜ now (r .exit) ≡ arrayAfter messageNumbers (mapAnswer (messageOf (networkOf mainnet) (now (body .entry))) (peersBody cap (now (body .entry)) 0)) (now (r .entry)) ⌝ }
+    ensures { λ n. ⌜ ReaderLeaves messageNumbers (mapAnswer (messageOf (networkOf mainnet) (now (body .entry))) (peersBody cap (now (body .entry)) 0)) n
+        (now (r .entry)) (now (r .exit)) ⌝ }
 {
     match messages_read::parse_peers_body(body, cap, crate::network_of(mainnet)) {
         PeersRead::Value(p, next) => {
@@ -78,8 +78,8 @@ pub extern "C" fn haspeljo_entry_by_index(
     index: usize,
     r: &mut [u64; 15],
 ) -> u8
-    ensures { λ n. ⌜ n ≡ numberOf (mapAnswer peerSpecOf (entryAt cap index (now (body .entry)))) ⌝ }
-    ensures { λ n. ⌜ now (r .exit) ≡ arrayAfter entryNext (mapAnswer peerSpecOf (entryAt cap index (now (body .entry)))) (now (r .entry)) ⌝ }
+    ensures { λ n. ⌜ ReaderLeaves entryNext (mapAnswer peerSpecOf (entryAt cap index (now (body .entry)))) n
+        (now (r .entry)) (now (r .exit)) ⌝ }
 {
     match messages_read::entry_by_index(body, cap, index) {
         PeerRead::Value(peer, next) => {
@@ -93,8 +93,7 @@ pub extern "C" fn haspeljo_entry_by_index(
 // An id of a ModifierRequest or Inv body, by index: r is its place.
 #[no_mangle]
 pub extern "C" fn haspeljo_id_by_index(body: &[u8], index: usize, r: &mut [u64; 1]) -> u8
-    ensures { λ n. ⌜ n ≡ numberOf (mapAnswer idOf (idAt index (now (body .entry)))) ⌝ }
-    ensures { λ n. ⌜ now (r .exit) ≡ arrayAfter idOnly (mapAnswer idOf (idAt index (now (body .entry)))) (now (r .entry)) ⌝ }
+    ensures { λ n. ⌜ ReaderLeaves idOnly (mapAnswer idOf (idAt index (now (body .entry)))) n (now (r .entry)) (now (r .exit)) ⌝ }
 {
     match messages_inventory_read::id_by_index(body, index) {
         IdRead::Value(p) => {
@@ -114,8 +113,8 @@ pub extern "C" fn haspeljo_read_payload(
     total: usize,
     r: &mut [u64; 5],
 ) -> u8
-    ensures { λ n. ⌜ n ≡ numberOf (mapAnswer (payloadSum total) (payloadAfter (length (now (body .entry))) total (now (body .entry)) at)) ⌝ }
-    ensures { λ n. ⌜ now (r .exit) ≡ arrayAfter payloadTotal (mapAnswer (payloadSum total) (payloadAfter (length (now (body .entry))) total (now (body .entry)) at)) (now (r .entry)) ⌝ }
+    ensures { λ n. ⌜ ReaderLeaves payloadTotal (mapAnswer (payloadSum total) (payloadAfter (length (now (body .entry))) total (now (body .entry)) at)) n
+        (now (r .entry)) (now (r .exit)) ⌝ }
 {
     match messages_inventory_read::read_payload(body, BodyPlace(at), total) {
         PayloadRead::Value(p, next, sum) => {
@@ -135,8 +134,8 @@ pub extern "C" fn haspeljo_read_payload(
 // A payload of a ModifierResponse body, by index. r is the place of its id, the place and length of its bytes, and where it ends.
 #[no_mangle]
 pub extern "C" fn haspeljo_payload_by_index(body: &[u8], index: usize, r: &mut [u64; 4]) -> u8
-    ensures { λ n. ⌜ n ≡ numberOf (mapAnswer payloadOf (payloadAt index (now (body .entry)))) ⌝ }
-    ensures { λ n. ⌜ now (r .exit) ≡ arrayAfter payloadNext (mapAnswer payloadOf (payloadAt index (now (body .entry)))) (now (r .entry)) ⌝ }
+    ensures { λ n. ⌜ ReaderLeaves payloadNext (mapAnswer payloadOf (payloadAt index (now (body .entry)))) n
+        (now (r .entry)) (now (r .exit)) ⌝ }
 {
     match messages_inventory_read::payload_by_index(body, index) {
         PayloadAt::Value(p, next) => {

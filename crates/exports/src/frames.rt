@@ -4,7 +4,7 @@ ghost use Rattle.wire.specs.Reader.{mapAnswer};
 ghost use Rattle.frame.specs.Frame.{frame};
 ghost use Rattle.frame_read.specs.Answers.{frameOf};
 ghost use Rattle.export_arrays.specs.Networks.{networkOf};
-ghost use Rattle.exports.specs.Results.{numberOf, arrayAfter};
+ghost use Rattle.exports.specs.Results.{ReaderLeaves};
 ghost use Rattle.exports.specs.Frames.{frameNext};
 use frame_read::FrameRead;
 use types::StreamPlace;
@@ -12,8 +12,8 @@ use types::StreamPlace;
 // The frame at a place: r is its code, the place and length of its body, and the next place.
 #[no_mangle]
 pub extern "C" fn haspeljo_decode(s: &[u8], mainnet: u8, at: usize, r: &mut [u64; 4]) -> u8
-    ensures { λ n. ⌜ n ≡ numberOf (mapAnswer frameOf (frame (networkOf mainnet) (now (s .entry)) at)) ⌝ }
-    ensures { λ n. ⌜ now (r .exit) ≡ arrayAfter frameNext (mapAnswer frameOf (frame (networkOf mainnet) (now (s .entry)) at)) (now (r .entry)) ⌝ }
+    ensures { λ n. ⌜ ReaderLeaves frameNext (mapAnswer frameOf (frame (networkOf mainnet) (now (s .entry)) at)) n
+        (now (r .entry)) (now (r .exit)) ⌝ }
 {
     match frame_read::decode(s, crate::network_of(mainnet), StreamPlace(at)) {
         FrameRead::Value(f, next) => {

@@ -8,7 +8,7 @@ ghost use Rattle.handshake_read.specs.Answers.{featureOf, peerSpecOf, handshake
 ghost use Rattle.handshake_verdict.specs.Answers.{handshakeVerdict, entryUrl};
 ghost use Rattle.export_arrays.specs.Networks.{networkOf};
 ghost use Rattle.export_arrays.specs.Entries.{handshakeNext, entryNext, featureNext, sizeOnly, urlNext};
-ghost use Rattle.exports.specs.Results.{numberOf, arrayAfter, valueNext};
+ghost use Rattle.exports.specs.Results.{ReaderLeaves, valueNext};
 use export_arrays::entries::entry_numbers;
 use export_arrays::entries::url_numbers;
 use handshake_read::EntryRead;
@@ -24,8 +24,8 @@ use vlq::Cursor;
 // the first; and the next place.
 #[no_mangle]
 pub extern "C" fn haspeljo_parse(s: &[u8], r: &mut [u64; 15]) -> u8
-    ensures { λ n. ⌜ n ≡ numberOf (mapAnswer handshakeOf (handshake (now (s .entry)) 0)) ⌝ }
-    ensures { λ n. ⌜ now (r .exit) ≡ arrayAfter handshakeNext (mapAnswer handshakeOf (handshake (now (s .entry)) 0)) (now (r .entry)) ⌝ }
+    ensures { λ n. ⌜ ReaderLeaves handshakeNext (mapAnswer handshakeOf (handshake (now (s .entry)) 0)) n
+        (now (r .entry)) (now (r .exit)) ⌝ }
 {
     match handshake_read::parse(s) {
         HandshakeRead::Value(h, next) => {
@@ -39,8 +39,7 @@ pub extern "C" fn haspeljo_parse(s: &[u8], r: &mut [u64; 15]) -> u8
 // r is how many bytes the handshake takes.
 #[no_mangle]
 pub extern "C" fn haspeljo_measure_size(s: &[u8], r: &mut [u64; 1]) -> u8
-    ensures { λ n. ⌜ n ≡ numberOf (andThen handshake (λ h. place) (now (s .entry)) 0) ⌝ }
-    ensures { λ n. ⌜ now (r .exit) ≡ arrayAfter sizeOnly (andThen handshake (λ h. place) (now (s .entry)) 0) (now (r .entry)) ⌝ }
+    ensures { λ n. ⌜ ReaderLeaves sizeOnly (andThen handshake (λ h. place) (now (s .entry)) 0) n (now (r .entry)) (now (r .exit)) ⌝ }
 {
     match handshake_read::measure_size(s) {
         SizeRead::Size(n) => {
@@ -54,8 +53,7 @@ pub extern "C" fn haspeljo_measure_size(s: &[u8], r: &mut [u64; 1]) -> u8
 // An entry at a place. r is 0, and then as for a handshake.
 #[no_mangle]
 pub extern "C" fn haspeljo_parse_peer_entry(s: &[u8], at: usize, r: &mut [u64; 15]) -> u8
-    ensures { λ n. ⌜ n ≡ numberOf (mapAnswer peerSpecOf (entry (now (s .entry)) at)) ⌝ }
-    ensures { λ n. ⌜ now (r .exit) ≡ arrayAfter entryNext (mapAnswer peerSpecOf (entry (now (s .entry)) at)) (now (r .entry)) ⌝ }
+    ensures { λ n. ⌜ ReaderLeaves entryNext (mapAnswer peerSpecOf (entry (now (s .entry)) at)) n (now (r .entry)) (now (r .exit)) ⌝ }
 {
     match handshake_read::parse_peer_entry(s, Cursor { at }) {
         EntryRead::Value(peer, next) => {
@@ -69,8 +67,7 @@ pub extern "C" fn haspeljo_parse_peer_entry(s: &[u8], at: usize, r: &mut [u64; 1
 // The feature at a place: r is its id, the place and length of its body, and the next place.
 #[no_mangle]
 pub extern "C" fn haspeljo_read_feature(s: &[u8], at: usize, r: &mut [u64; 4]) -> u8
-    ensures { λ n. ⌜ n ≡ numberOf (mapAnswer featureOf (feature (now (s .entry)) at)) ⌝ }
-    ensures { λ n. ⌜ now (r .exit) ≡ arrayAfter featureNext (mapAnswer featureOf (feature (now (s .entry)) at)) (now (r .entry)) ⌝ }
+    ensures { λ n. ⌜ ReaderLeaves featureNext (mapAnswer featureOf (feature (now (s .entry)) at)) n (now (r .entry)) (now (r .exit)) ⌝ }
 {
     match handshake_read::read_feature(s, Cursor { at }) {
         FeatureRead::Value(f, next) => {
@@ -94,8 +91,8 @@ pub extern "C" fn haspeljo_feature_by_index(
     index: usize,
     r: &mut [u64; 4],
 ) -> u8
-    ensures { λ n. ⌜ n ≡ numberOf (mapAnswer featureOf (featureAt index (now (s .entry)) at)) ⌝ }
-    ensures { λ n. ⌜ now (r .exit) ≡ arrayAfter featureNext (mapAnswer featureOf (featureAt index (now (s .entry)) at)) (now (r .entry)) ⌝ }
+    ensures { λ n. ⌜ ReaderLeaves featureNext (mapAnswer featureOf (featureAt index (now (s .entry)) at)) n
+        (now (r .entry)) (now (r .exit)) ⌝ }
 {
     match handshake_read::feature_by_index(s, Cursor { at }, index) {
         FeatureRead::Value(f, next) => {
@@ -114,8 +111,8 @@ pub extern "C" fn haspeljo_feature_by_index(
 // r is the verdict on the handshake, and where the handshake ends.
 #[no_mangle]
 pub extern "C" fn haspeljo_validate_peer(s: &[u8], mainnet: u8, r: &mut [u64; 2]) -> u8
-    ensures { λ n. ⌜ n ≡ numberOf (mapAnswer (handshakeVerdict (networkOf mainnet)) (handshake (now (s .entry)) 0)) ⌝ }
-    ensures { λ n. ⌜ now (r .exit) ≡ arrayAfter valueNext (mapAnswer (handshakeVerdict (networkOf mainnet)) (handshake (now (s .entry)) 0)) (now (r .entry)) ⌝ }
+    ensures { λ n. ⌜ ReaderLeaves valueNext (mapAnswer (handshakeVerdict (networkOf mainnet)) (handshake (now (s .entry)) 0)) n
+        (now (r .entry)) (now (r .exit)) ⌝ }
 {
     match handshake_verdict::validate_peer(s, crate::network_of(mainnet)) {
         VerdictRead::Value(v, next) => {
@@ -129,8 +126,8 @@ pub extern "C" fn haspeljo_validate_peer(s: &[u8], mainnet: u8, r: &mut [u64; 2]
 // r is the verdict on the entry at a place, and where the entry ends.
 #[no_mangle]
 pub extern "C" fn haspeljo_validate_entry(s: &[u8], at: usize, mainnet: u8, r: &mut [u64; 2]) -> u8
-    ensures { λ n. ⌜ n ≡ numberOf (mapAnswer (validatePeer (networkOf mainnet)) (entry (now (s .entry)) at)) ⌝ }
-    ensures { λ n. ⌜ now (r .exit) ≡ arrayAfter valueNext (mapAnswer (validatePeer (networkOf mainnet)) (entry (now (s .entry)) at)) (now (r .entry)) ⌝ }
+    ensures { λ n. ⌜ ReaderLeaves valueNext (mapAnswer (validatePeer (networkOf mainnet)) (entry (now (s .entry)) at)) n
+        (now (r .entry)) (now (r .exit)) ⌝ }
 {
     match handshake_verdict::validate_entry(s, Cursor { at }, crate::network_of(mainnet)) {
         VerdictRead::Value(v, next) => {
@@ -144,8 +141,7 @@ pub extern "C" fn haspeljo_validate_entry(s: &[u8], at: usize, mainnet: u8, r: &
 // The REST API URL of the entry at a place: r is 1, its place and length; or three zeros if there is none; and where the entry ends.
 #[no_mangle]
 pub extern "C" fn haspeljo_rest_api_url(s: &[u8], at: usize, r: &mut [u64; 4]) -> u8
-    ensures { λ n. ⌜ n ≡ numberOf (mapAnswer entryUrl (entry (now (s .entry)) at)) ⌝ }
-    ensures { λ n. ⌜ now (r .exit) ≡ arrayAfter urlNext (mapAnswer entryUrl (entry (now (s .entry)) at)) (now (r .entry)) ⌝ }
+    ensures { λ n. ⌜ ReaderLeaves urlNext (mapAnswer entryUrl (entry (now (s .entry)) at)) n (now (r .entry)) (now (r .exit)) ⌝ }
 {
     match handshake_verdict::rest_api_url(s, Cursor { at }) {
         UrlRead::Value(u, next) => {

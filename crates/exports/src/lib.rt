@@ -1,19 +1,16 @@
 // The functions that Rust and C link. Each returns 0, or document 01's refusal number with the lent array and output as they were.
 // A slice passes as a pointer and a length, an array as a pointer.
 ghost use mathlib.Core.Path.{_≡_};
-ghost use mathlib.Core.List.{[]};
 ghost use Rattle.wire.specs.Reader.{byte, part, partOf, mapAnswer};
-ghost use Rattle.wire.specs.Output.{written, outputAfter};
 ghost use Rattle.vlq_utf8.specs.Utf8.{utf8};
-ghost use Rattle.vlq.specs.Vlq.{vlq, vlqLength, vlqBytes};
-ghost use Rattle.vlq.specs.ShortString.{shortString, shortStringBytes};
-ghost use Rattle.vlq_write.specs.Asked.{shortStringAsked};
+ghost use Rattle.vlq.specs.Vlq.{vlq, vlqLength};
+ghost use Rattle.vlq.specs.ShortString.{shortString};
 ghost use Rattle.vlq_zigzag.specs.Zigzag.{zigzagEncode, zigzagDecode};
 ghost use Rattle.types.specs.declared.Address.the-variants.{V4, V6};
 ghost use Rattle.address_sanity.specs.Bogus.{bogus};
 ghost use Rattle.blake2b.specs.Blake2b.{blake2b256, check};
 ghost use Rattle.export_arrays.specs.Networks.{networkOf};
-ghost use Rattle.exports.specs.Results.{numberOf, arrayAfter, valueNext, partNext, writtenNumber, endAfter, bit};
+ghost use Rattle.exports.specs.Results.{ReaderLeaves, valueNext, partNext, bit};
 
 pub mod bodies;
 pub mod frames;
@@ -27,13 +24,11 @@ use vlq::ByteRead;
 use vlq::Cursor;
 use vlq::PartRead;
 use vlq::VlqRead;
-use wire::Written;
 
 // r is the value and the next place.
 #[no_mangle]
 pub extern "C" fn haspeljo_read_byte(s: &[u8], at: usize, r: &mut [u64; 2]) -> u8
-    ensures { λ n. ⌜ n ≡ numberOf (byte (now (s .entry)) at) ⌝ }
-    ensures { λ n. ⌜ now (r .exit) ≡ arrayAfter valueNext (byte (now (s .entry)) at) (now (r .entry)) ⌝ }
+    ensures { λ n. ⌜ ReaderLeaves valueNext (byte (now (s .entry)) at) n (now (r .entry)) (now (r .exit)) ⌝ }
 {
     let c = Cursor { at };
     match c.read_byte(s) {
@@ -48,8 +43,7 @@ pub extern "C" fn haspeljo_read_byte(s: &[u8], at: usize, r: &mut [u64; 2]) -> u
 // r is the value and the next place.
 #[no_mangle]
 pub extern "C" fn haspeljo_read_vlq(s: &[u8], at: usize, r: &mut [u64; 2]) -> u8
-    ensures { λ n. ⌜ n ≡ numberOf (vlq (now (s .entry)) at) ⌝ }
-    ensures { λ n. ⌜ now (r .exit) ≡ arrayAfter valueNext (vlq (now (s .entry)) at) (now (r .entry)) ⌝ }
+    ensures { λ n. ⌜ ReaderLeaves valueNext (vlq (now (s .entry)) at) n (now (r .entry)) (now (r .exit)) ⌝ }
 {
     let c = Cursor { at };
     match c.read_vlq(s) {
@@ -64,8 +58,7 @@ pub extern "C" fn haspeljo_read_vlq(s: &[u8], at: usize, r: &mut [u64; 2]) -> u8
 // r is the length and the next place.
 #[no_mangle]
 pub extern "C" fn haspeljo_read_vlq_length(s: &[u8], at: usize, r: &mut [u64; 2]) -> u8
-    ensures { λ n. ⌜ n ≡ numberOf (vlqLength (now (s .entry)) at) ⌝ }
-    ensures { λ n. ⌜ now (r .exit) ≡ arrayAfter valueNext (vlqLength (now (s .entry)) at) (now (r .entry)) ⌝ }
+    ensures { λ n. ⌜ ReaderLeaves valueNext (vlqLength (now (s .entry)) at) n (now (r .entry)) (now (r .exit)) ⌝ }
 {
     let c = Cursor { at };
     match c.read_vlq_length(s) {
@@ -80,8 +73,7 @@ pub extern "C" fn haspeljo_read_vlq_length(s: &[u8], at: usize, r: &mut [u64; 2]
 // r is the string's place, its length and the next place.
 #[no_mangle]
 pub extern "C" fn haspeljo_read_short_string(s: &[u8], at: usize, r: &mut [u64; 3]) -> u8
-    ensures { λ n. ⌜ n ≡ numberOf (mapAnswer partOf (shortString (now (s .entry)) at)) ⌝ }
-    ensures { λ n. ⌜ now (r .exit) ≡ arrayAfter partNext (mapAnswer partOf (shortString (now (s .entry)) at)) (now (r .entry)) ⌝ }
+    ensures { λ n. ⌜ ReaderLeaves partNext (mapAnswer partOf (shortString (now (s .entry)) at)) n (now (r .entry)) (now (r .exit)) ⌝ }
 {
     let c = Cursor { at };
     match c.read_short_string(s) {
@@ -96,8 +88,7 @@ pub extern "C" fn haspeljo_read_short_string(s: &[u8], at: usize, r: &mut [u64; 
 // count bytes: r is their place, their number and the next place.
 #[no_mangle]
 pub extern "C" fn haspeljo_read_part(s: &[u8], at: usize, count: usize, r: &mut [u64; 3]) -> u8
-    ensures { λ n. ⌜ n ≡ numberOf (mapAnswer partOf (part count (now (s .entry)) at)) ⌝ }
-    ensures { λ n. ⌜ now (r .exit) ≡ arrayAfter partNext (mapAnswer partOf (part count (now (s .entry)) at)) (now (r .entry)) ⌝ }
+    ensures { λ n. ⌜ ReaderLeaves partNext (mapAnswer partOf (part count (now (s .entry)) at)) n (now (r .entry)) (now (r .exit)) ⌝ }
 {
     let c = Cursor { at };
     match c.read_part(s, count) {
@@ -106,59 +97,6 @@ pub extern "C" fn haspeljo_read_part(s: &[u8], at: usize, count: usize, r: &mut 
             0
         }
         PartRead::Refused(m) => m,
-    }
-}
-
-// r is the place after what was written.
-#[no_mangle]
-pub extern "C" fn haspeljo_write_vlq(out: &mut [u8], at: usize, value: u64, r: &mut [u64; 1]) -> u8
-    ensures { λ n. ⌜ n ≡ writtenNumber (written [] [] (now (out .entry)) at (vlqBytes value)) ⌝ }
-    ensures { λ n. ⌜ now (r .exit) ≡ endAfter (written [] [] (now (out .entry)) at (vlqBytes value)) (now (r .entry)) ⌝ }
-    ensures { λ n. ⌜ now (out .exit) ≡ outputAfter (written [] [] (now (out .entry)) at (vlqBytes value)) (now (out .entry)) at (vlqBytes value) ⌝ }
-{
-    match vlq_write::write_vlq(out, at, value) {
-        Written::To(end) => {
-            *r = [end as u64];
-            0
-        }
-        Written::Refused(m) => m,
-    }
-}
-
-// r is the place after what was written.
-#[no_mangle]
-pub extern "C" fn haspeljo_write_short_string(
-    out: &mut [u8],
-    at: usize,
-    s: &[u8],
-    r: &mut [u64; 1],
-) -> u8
-    ensures { λ n. ⌜ n ≡ writtenNumber (written [] (shortStringAsked (now (s .entry))) (now (out .entry)) at (shortStringBytes (now (s .entry)))) ⌝ }
-    ensures { λ n. ⌜ now (r .exit) ≡ endAfter (written [] (shortStringAsked (now (s .entry))) (now (out .entry)) at (shortStringBytes (now (s .entry)))) (now (r .entry)) ⌝ }
-    ensures { λ n. ⌜ now (out .exit) ≡ outputAfter (written [] (shortStringAsked (now (s .entry))) (now (out .entry)) at (shortStringBytes (now (s .entry)))) (now (out .entry)) at (shortStringBytes (now (s .entry))) ⌝ }
-{
-    match vlq_write::write_short_string(out, at, s) {
-        Written::To(end) => {
-            *r = [end as u64];
-            0
-        }
-        Written::Refused(m) => m,
-    }
-}
-
-// r is the place after what was written.
-#[no_mangle]
-pub extern "C" fn haspeljo_write_part(out: &mut [u8], at: usize, s: &[u8], r: &mut [u64; 1]) -> u8
-    ensures { λ n. ⌜ n ≡ writtenNumber (written [] [] (now (out .entry)) at (now (s .entry))) ⌝ }
-    ensures { λ n. ⌜ now (r .exit) ≡ endAfter (written [] [] (now (out .entry)) at (now (s .entry))) (now (r .entry)) ⌝ }
-    ensures { λ n. ⌜ now (out .exit) ≡ outputAfter (written [] [] (now (out .entry)) at (now (s .entry))) (now (out .entry)) at (now (s .entry)) ⌝ }
-{
-    match wire_part_write::write_part(out, at, s) {
-        Written::To(end) => {
-            *r = [end as u64];
-            0
-        }
-        Written::Refused(m) => m,
     }
 }
 

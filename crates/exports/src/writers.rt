@@ -1,22 +1,53 @@
 // Writers for Rust and C, each from a place of a lent output. r is the place after what was written.
 ghost use mathlib.Core.Bool.{true};
 ghost use mathlib.Core.Path.{_≡_};
-ghost use Rattle.wire.specs.Output.{outputAfter};
-ghost use Rattle.frame.specs.Frame.{frameBytes};
-ghost use Rattle.frame.specs.Writes.{frameWritten};
-ghost use Rattle.handshake.specs.Value.{entryBytes, handshakeBytes};
 ghost use Rattle.handshake.specs.Tables.{lent};
-ghost use Rattle.handshake.specs.Writes.{entryAt, entryWritten, handshakeAt, handshakeWritten, built};
 ghost use Rattle.handshake_build.specs.Parts.{configOf};
-ghost use Rattle.messages.specs.Writes.{writeGetPeers, writePeers, writeModifierRequest, writeModifierResponse, writeInv, writeSyncInfo, writeUnknown, valueOf, messageBytes, messageWritten};
+ghost use Rattle.messages.specs.Writes.{writeGetPeers, writePeers, writeModifierRequest, writeModifierResponse, writeInv, writeSyncInfo, writeUnknown};
 ghost use Rattle.export_arrays.specs.Networks.{networkOf};
-ghost use Rattle.exports.specs.Results.{writtenNumber, endAfter};
-ghost use Rattle.exports.specs.Configs.{isSet, modeOf, addressFrom, addressNumbers, builtFrom, builtFromWritten};
+ghost use Rattle.exports.specs.Results.{writtenNumber, endAfter, WriterLeaves};
+ghost use Rattle.exports.specs.Configs.{isSet, modeOf, addressFrom, addressNumbers, builtFrom};
+ghost use Rattle.exports.specs.Writers.{vlqWriter, shortStringWriter, partWriter, entryWriter, handshakeWriter, frameWriter, messageWriter, buildWriter};
 use handshake_build::Config;
 use types::Address;
 use types::ProxyMode;
 use types::Version;
 use wire::Written;
+
+// A VLQ, the shortest.
+#[no_mangle]
+pub extern "C" fn haspeljo_write_vlq(out: &mut [u8], at: usize, value: u64, r: &mut [u64; 1]) -> u8
+    ensures { λ n. ⌜ WriterLeaves (vlqWriter value) at n
+        (now (r .entry)) (now (r .exit)) (now (out .entry)) (now (out .exit)) ⌝ }
+{
+    let w = vlq_write::write_vlq(out, at, value);
+    written_result(w, r)
+}
+
+// A length byte, and the bytes of s.
+#[no_mangle]
+pub extern "C" fn haspeljo_write_short_string(
+    out: &mut [u8],
+    at: usize,
+    s: &[u8],
+    r: &mut [u64; 1],
+) -> u8
+    ensures { λ n. ⌜ WriterLeaves (shortStringWriter (now (s .entry))) at n
+        (now (r .entry)) (now (r .exit)) (now (out .entry)) (now (out .exit)) ⌝ }
+{
+    let w = vlq_write::write_short_string(out, at, s);
+    written_result(w, r)
+}
+
+// The bytes of s.
+#[no_mangle]
+pub extern "C" fn haspeljo_write_part(out: &mut [u8], at: usize, s: &[u8], r: &mut [u64; 1]) -> u8
+    ensures { λ n. ⌜ WriterLeaves (partWriter (now (s .entry))) at n
+        (now (r .entry)) (now (r .exit)) (now (out .entry)) (now (out .exit)) ⌝ }
+{
+    let w = wire_part_write::write_part(out, at, s);
+    written_result(w, r)
+}
 
 // The entry in row index of a table.
 #[no_mangle]
@@ -29,17 +60,11 @@ pub extern "C" fn haspeljo_write_entry(
     index: usize,
     r: &mut [u64; 1],
 ) -> u8
-    ensures { λ n. ⌜ n ≡ writtenNumber (entryWritten (lent (now (entries .entry)) (now (features .entry)) (now (buffer .entry))) index (now (out .entry)) at) ⌝ }
-    ensures { λ n. ⌜ now (r .exit) ≡ endAfter (entryWritten (lent (now (entries .entry)) (now (features .entry)) (now (buffer .entry))) index (now (out .entry)) at) (now (r .entry)) ⌝ }
-    ensures { λ n. ⌜ now (out .exit) ≡ outputAfter (entryWritten (lent (now (entries .entry)) (now (features .entry)) (now (buffer .entry))) index (now (out .entry)) at) (now (out .entry)) at (entryBytes (entryAt (lent (now (entries .entry)) (now (features .entry)) (now (buffer .entry))) index)) ⌝ }
+    ensures { λ n. ⌜ WriterLeaves (entryWriter (lent (now (entries .entry)) (now (features .entry)) (now (buffer .entry))) index) at n
+        (now (r .entry)) (now (r .exit)) (now (out .entry)) (now (out .exit)) ⌝ }
 {
-    match handshake_entry_write::write_entry(out, at, entries, features, buffer, index) {
-        Written::To(end) => {
-            *r = [end as u64];
-            0
-        }
-        Written::Refused(m) => m,
-    }
+    let w = handshake_entry_write::write_entry(out, at, entries, features, buffer, index);
+    written_result(w, r)
 }
 
 // A handshake: a timestamp with the entry in row index of a table.
@@ -54,17 +79,11 @@ pub extern "C" fn haspeljo_write_handshake(
     index: usize,
     r: &mut [u64; 1],
 ) -> u8
-    ensures { λ n. ⌜ n ≡ writtenNumber (handshakeWritten timestamp (lent (now (entries .entry)) (now (features .entry)) (now (buffer .entry))) index (now (out .entry)) at) ⌝ }
-    ensures { λ n. ⌜ now (r .exit) ≡ endAfter (handshakeWritten timestamp (lent (now (entries .entry)) (now (features .entry)) (now (buffer .entry))) index (now (out .entry)) at) (now (r .entry)) ⌝ }
-    ensures { λ n. ⌜ now (out .exit) ≡ outputAfter (handshakeWritten timestamp (lent (now (entries .entry)) (now (features .entry)) (now (buffer .entry))) index (now (out .entry)) at) (now (out .entry)) at (handshakeBytes (handshakeAt timestamp (lent (now (entries .entry)) (now (features .entry)) (now (buffer .entry))) index)) ⌝ }
+    ensures { λ n. ⌜ WriterLeaves (handshakeWriter timestamp (lent (now (entries .entry)) (now (features .entry)) (now (buffer .entry))) index) at n
+        (now (r .entry)) (now (r .exit)) (now (out .entry)) (now (out .exit)) ⌝ }
 {
-    match handshake_write::write_handshake(out, at, timestamp, entries, features, buffer, index) {
-        Written::To(end) => {
-            *r = [end as u64];
-            0
-        }
-        Written::Refused(m) => m,
-    }
+    let w = handshake_write::write_handshake(out, at, timestamp, entries, features, buffer, index);
+    written_result(w, r)
 }
 
 // A frame of any code.
@@ -77,17 +96,11 @@ pub extern "C" fn haspeljo_encode(
     body: &[u8],
     r: &mut [u64; 1],
 ) -> u8
-    ensures { λ n. ⌜ n ≡ writtenNumber (frameWritten (networkOf mainnet) code (now (body .entry)) (now (out .entry)) at) ⌝ }
-    ensures { λ n. ⌜ now (r .exit) ≡ endAfter (frameWritten (networkOf mainnet) code (now (body .entry)) (now (out .entry)) at) (now (r .entry)) ⌝ }
-    ensures { λ n. ⌜ now (out .exit) ≡ outputAfter (frameWritten (networkOf mainnet) code (now (body .entry)) (now (out .entry)) at) (now (out .entry)) at (frameBytes (networkOf mainnet) code (now (body .entry))) ⌝ }
+    ensures { λ n. ⌜ WriterLeaves (frameWriter (networkOf mainnet) code (now (body .entry))) at n
+        (now (r .entry)) (now (r .exit)) (now (out .entry)) (now (out .exit)) ⌝ }
 {
-    match frame_write::encode(out, at, crate::network_of(mainnet), code, body) {
-        Written::To(end) => {
-            *r = [end as u64];
-            0
-        }
-        Written::Refused(m) => m,
-    }
+    let w = frame_write::encode(out, at, crate::network_of(mainnet), code, body);
+    written_result(w, r)
 }
 
 // GetPeers, as its whole frame.
@@ -98,17 +111,11 @@ pub extern "C" fn haspeljo_write_get_peers(
     mainnet: u8,
     r: &mut [u64; 1],
 ) -> u8
-    ensures { λ n. ⌜ n ≡ writtenNumber (messageWritten (networkOf mainnet) 0 (writeGetPeers) (now (out .entry)) at) ⌝ }
-    ensures { λ n. ⌜ now (r .exit) ≡ endAfter (messageWritten (networkOf mainnet) 0 (writeGetPeers) (now (out .entry)) at) (now (r .entry)) ⌝ }
-    ensures { λ n. ⌜ now (out .exit) ≡ outputAfter (messageWritten (networkOf mainnet) 0 (writeGetPeers) (now (out .entry)) at) (now (out .entry)) at (messageBytes (networkOf mainnet) (valueOf (writeGetPeers))) ⌝ }
+    ensures { λ n. ⌜ WriterLeaves (messageWriter (networkOf mainnet) 0 writeGetPeers) at n
+        (now (r .entry)) (now (r .exit)) (now (out .entry)) (now (out .exit)) ⌝ }
 {
-    match messages_write::write_get_peers(out, at, crate::network_of(mainnet)) {
-        Written::To(end) => {
-            *r = [end as u64];
-            0
-        }
-        Written::Refused(m) => m,
-    }
+    let w = messages_write::write_get_peers(out, at, crate::network_of(mainnet));
+    written_result(w, r)
 }
 
 // Peers from all rows of a table.
@@ -123,11 +130,10 @@ pub extern "C" fn haspeljo_write_peers(
     buffer: &[u8],
     r: &mut [u64; 1],
 ) -> u8
-    ensures { λ n. ⌜ n ≡ writtenNumber (messageWritten (networkOf mainnet) cap (writePeers (lent (now (entries .entry)) (now (features .entry)) (now (buffer .entry)))) (now (out .entry)) at) ⌝ }
-    ensures { λ n. ⌜ now (r .exit) ≡ endAfter (messageWritten (networkOf mainnet) cap (writePeers (lent (now (entries .entry)) (now (features .entry)) (now (buffer .entry)))) (now (out .entry)) at) (now (r .entry)) ⌝ }
-    ensures { λ n. ⌜ now (out .exit) ≡ outputAfter (messageWritten (networkOf mainnet) cap (writePeers (lent (now (entries .entry)) (now (features .entry)) (now (buffer .entry)))) (now (out .entry)) at) (now (out .entry)) at (messageBytes (networkOf mainnet) (valueOf (writePeers (lent (now (entries .entry)) (now (features .entry)) (now (buffer .entry)))))) ⌝ }
+    ensures { λ n. ⌜ WriterLeaves (messageWriter (networkOf mainnet) cap (writePeers (lent (now (entries .entry)) (now (features .entry)) (now (buffer .entry))))) at n
+        (now (r .entry)) (now (r .exit)) (now (out .entry)) (now (out .exit)) ⌝ }
 {
-    match messages_peers_write::write_peers(
+    let w = messages_peers_write::write_peers(
         out,
         at,
         crate::network_of(mainnet),
@@ -135,13 +141,8 @@ pub extern "C" fn haspeljo_write_peers(
         entries,
         features,
         buffer,
-    ) {
-        Written::To(end) => {
-            *r = [end as u64];
-            0
-        }
-        Written::Refused(m) => m,
-    }
+    );
+    written_result(w, r)
 }
 
 // ModifierRequest: a type byte and the ids at places of the buffer.
@@ -155,24 +156,18 @@ pub extern "C" fn haspeljo_write_modifier_request(
     buffer: &[u8],
     r: &mut [u64; 1],
 ) -> u8
-    ensures { λ n. ⌜ n ≡ writtenNumber (messageWritten (networkOf mainnet) 0 (writeModifierRequest kind (now (ids .entry)) (now (buffer .entry))) (now (out .entry)) at) ⌝ }
-    ensures { λ n. ⌜ now (r .exit) ≡ endAfter (messageWritten (networkOf mainnet) 0 (writeModifierRequest kind (now (ids .entry)) (now (buffer .entry))) (now (out .entry)) at) (now (r .entry)) ⌝ }
-    ensures { λ n. ⌜ now (out .exit) ≡ outputAfter (messageWritten (networkOf mainnet) 0 (writeModifierRequest kind (now (ids .entry)) (now (buffer .entry))) (now (out .entry)) at) (now (out .entry)) at (messageBytes (networkOf mainnet) (valueOf (writeModifierRequest kind (now (ids .entry)) (now (buffer .entry))))) ⌝ }
+    ensures { λ n. ⌜ WriterLeaves (messageWriter (networkOf mainnet) 0 (writeModifierRequest kind (now (ids .entry)) (now (buffer .entry)))) at n
+        (now (r .entry)) (now (r .exit)) (now (out .entry)) (now (out .exit)) ⌝ }
 {
-    match messages_inventory_write::write_modifier_request(
+    let w = messages_inventory_write::write_modifier_request(
         out,
         at,
         crate::network_of(mainnet),
         kind,
         ids,
         buffer,
-    ) {
-        Written::To(end) => {
-            *r = [end as u64];
-            0
-        }
-        Written::Refused(m) => m,
-    }
+    );
+    written_result(w, r)
 }
 
 // ModifierResponse: a type byte and the payloads of a table.
@@ -186,24 +181,18 @@ pub extern "C" fn haspeljo_write_modifier_response(
     buffer: &[u8],
     r: &mut [u64; 1],
 ) -> u8
-    ensures { λ n. ⌜ n ≡ writtenNumber (messageWritten (networkOf mainnet) 0 (writeModifierResponse kind (now (payloads .entry)) (now (buffer .entry))) (now (out .entry)) at) ⌝ }
-    ensures { λ n. ⌜ now (r .exit) ≡ endAfter (messageWritten (networkOf mainnet) 0 (writeModifierResponse kind (now (payloads .entry)) (now (buffer .entry))) (now (out .entry)) at) (now (r .entry)) ⌝ }
-    ensures { λ n. ⌜ now (out .exit) ≡ outputAfter (messageWritten (networkOf mainnet) 0 (writeModifierResponse kind (now (payloads .entry)) (now (buffer .entry))) (now (out .entry)) at) (now (out .entry)) at (messageBytes (networkOf mainnet) (valueOf (writeModifierResponse kind (now (payloads .entry)) (now (buffer .entry))))) ⌝ }
+    ensures { λ n. ⌜ WriterLeaves (messageWriter (networkOf mainnet) 0 (writeModifierResponse kind (now (payloads .entry)) (now (buffer .entry)))) at n
+        (now (r .entry)) (now (r .exit)) (now (out .entry)) (now (out .exit)) ⌝ }
 {
-    match messages_response_write::write_modifier_response(
+    let w = messages_response_write::write_modifier_response(
         out,
         at,
         crate::network_of(mainnet),
         kind,
         payloads,
         buffer,
-    ) {
-        Written::To(end) => {
-            *r = [end as u64];
-            0
-        }
-        Written::Refused(m) => m,
-    }
+    );
+    written_result(w, r)
 }
 
 // Inv: a type byte and the ids at places of the buffer.
@@ -217,24 +206,18 @@ pub extern "C" fn haspeljo_write_inv(
     buffer: &[u8],
     r: &mut [u64; 1],
 ) -> u8
-    ensures { λ n. ⌜ n ≡ writtenNumber (messageWritten (networkOf mainnet) 0 (writeInv kind (now (ids .entry)) (now (buffer .entry))) (now (out .entry)) at) ⌝ }
-    ensures { λ n. ⌜ now (r .exit) ≡ endAfter (messageWritten (networkOf mainnet) 0 (writeInv kind (now (ids .entry)) (now (buffer .entry))) (now (out .entry)) at) (now (r .entry)) ⌝ }
-    ensures { λ n. ⌜ now (out .exit) ≡ outputAfter (messageWritten (networkOf mainnet) 0 (writeInv kind (now (ids .entry)) (now (buffer .entry))) (now (out .entry)) at) (now (out .entry)) at (messageBytes (networkOf mainnet) (valueOf (writeInv kind (now (ids .entry)) (now (buffer .entry))))) ⌝ }
+    ensures { λ n. ⌜ WriterLeaves (messageWriter (networkOf mainnet) 0 (writeInv kind (now (ids .entry)) (now (buffer .entry)))) at n
+        (now (r .entry)) (now (r .exit)) (now (out .entry)) (now (out .exit)) ⌝ }
 {
-    match messages_inventory_write::write_inv(
+    let w = messages_inventory_write::write_inv(
         out,
         at,
         crate::network_of(mainnet),
         kind,
         ids,
         buffer,
-    ) {
-        Written::To(end) => {
-            *r = [end as u64];
-            0
-        }
-        Written::Refused(m) => m,
-    }
+    );
+    written_result(w, r)
 }
 
 // SyncInfo, whose body is written as it is.
@@ -246,17 +229,11 @@ pub extern "C" fn haspeljo_write_sync_info(
     body: &[u8],
     r: &mut [u64; 1],
 ) -> u8
-    ensures { λ n. ⌜ n ≡ writtenNumber (messageWritten (networkOf mainnet) 0 (writeSyncInfo (now (body .entry))) (now (out .entry)) at) ⌝ }
-    ensures { λ n. ⌜ now (r .exit) ≡ endAfter (messageWritten (networkOf mainnet) 0 (writeSyncInfo (now (body .entry))) (now (out .entry)) at) (now (r .entry)) ⌝ }
-    ensures { λ n. ⌜ now (out .exit) ≡ outputAfter (messageWritten (networkOf mainnet) 0 (writeSyncInfo (now (body .entry))) (now (out .entry)) at) (now (out .entry)) at (messageBytes (networkOf mainnet) (valueOf (writeSyncInfo (now (body .entry))))) ⌝ }
+    ensures { λ n. ⌜ WriterLeaves (messageWriter (networkOf mainnet) 0 (writeSyncInfo (now (body .entry)))) at n
+        (now (r .entry)) (now (r .exit)) (now (out .entry)) (now (out .exit)) ⌝ }
 {
-    match messages_write::write_sync_info(out, at, crate::network_of(mainnet), body) {
-        Written::To(end) => {
-            *r = [end as u64];
-            0
-        }
-        Written::Refused(m) => m,
-    }
+    let w = messages_write::write_sync_info(out, at, crate::network_of(mainnet), body);
+    written_result(w, r)
 }
 
 // A message of another code, whose body is written as it is.
@@ -269,17 +246,11 @@ pub extern "C" fn haspeljo_write_unknown(
     body: &[u8],
     r: &mut [u64; 1],
 ) -> u8
-    ensures { λ n. ⌜ n ≡ writtenNumber (messageWritten (networkOf mainnet) 0 (writeUnknown code (now (body .entry))) (now (out .entry)) at) ⌝ }
-    ensures { λ n. ⌜ now (r .exit) ≡ endAfter (messageWritten (networkOf mainnet) 0 (writeUnknown code (now (body .entry))) (now (out .entry)) at) (now (r .entry)) ⌝ }
-    ensures { λ n. ⌜ now (out .exit) ≡ outputAfter (messageWritten (networkOf mainnet) 0 (writeUnknown code (now (body .entry))) (now (out .entry)) at) (now (out .entry)) at (messageBytes (networkOf mainnet) (valueOf (writeUnknown code (now (body .entry))))) ⌝ }
+    ensures { λ n. ⌜ WriterLeaves (messageWriter (networkOf mainnet) 0 (writeUnknown code (now (body .entry)))) at n
+        (now (r .entry)) (now (r .exit)) (now (out .entry)) (now (out .exit)) ⌝ }
 {
-    match messages_write::write_unknown(out, at, crate::network_of(mainnet), code, body) {
-        Written::To(end) => {
-            *r = [end as u64];
-            0
-        }
-        Written::Refused(m) => m,
-    }
+    let w = messages_write::write_unknown(out, at, crate::network_of(mainnet), code, body);
+    written_result(w, r)
 }
 
 // A handshake with the features Mode and Session. light is 0 for a full node, verifying 0 for one that does not verify. The address is as
@@ -306,9 +277,10 @@ pub extern "C" fn haspeljo_build(
     name: &[u8],
     r: &mut [u64; 1],
 ) -> u8
-    ensures { λ n. ⌜ n ≡ writtenNumber (builtFromWritten kind high low (configOf (builtFrom mainnet light statetype verifying blocks major minor patch kind high low port timestamp session) (now (agent .entry)) (now (name .entry))) (now (out .entry)) at) ⌝ }
-    ensures { λ n. ⌜ now (r .exit) ≡ endAfter (builtFromWritten kind high low (configOf (builtFrom mainnet light statetype verifying blocks major minor patch kind high low port timestamp session) (now (agent .entry)) (now (name .entry))) (now (out .entry)) at) (now (r .entry)) ⌝ }
-    ensures { λ n. ⌜ now (out .exit) ≡ outputAfter (builtFromWritten kind high low (configOf (builtFrom mainnet light statetype verifying blocks major minor patch kind high low port timestamp session) (now (agent .entry)) (now (name .entry))) (now (out .entry)) at) (now (out .entry)) at (handshakeBytes (built (configOf (builtFrom mainnet light statetype verifying blocks major minor patch kind high low port timestamp session) (now (agent .entry)) (now (name .entry))))) ⌝ }
+    ensures { λ n. ⌜ WriterLeaves (buildWriter kind high low
+        (configOf (builtFrom mainnet light statetype verifying blocks major minor patch kind high low port timestamp session)
+        (now (agent .entry)) (now (name .entry)))) at n
+        (now (r .entry)) (now (r .exit)) (now (out .entry)) (now (out .exit)) ⌝ }
 {
     if !is_address(kind, high, low) {
         return 16;
@@ -329,7 +301,16 @@ pub extern "C" fn haspeljo_build(
         timestamp,
         session,
     };
-    match handshake_build::build(out, at, config, agent, name) {
+    let w = handshake_build::build(out, at, config, agent, name);
+    written_result(w, r)
+}
+
+// 0, with the end in r; or the refusal number, with r as it was.
+fn written_result(w: Written, r: &mut [u64; 1]) -> u8
+    ensures { λ n. ⌜ n ≡ writtenNumber w ⌝ }
+    ensures { λ n. ⌜ now (r .exit) ≡ endAfter w (now (r .entry)) ⌝ }
+{
+    match w {
         Written::To(end) => {
             *r = [end as u64];
             0

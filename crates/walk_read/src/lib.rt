@@ -31,7 +31,8 @@ pub struct HandshakeItem {
     pub verdict: u8,
 }
 
-// A frame of a session, opened as a message; its places are places in the frame's body.
+// A frame of a session, opened as a message. Its places are places in the frame's body; through the body's start they become places in the stream,
+// one by BodyPlace::in_stream, and what is reached by index by the functions of walk_by_index.
 pub struct MessageItem {
     pub start: StreamPlace,
     pub end: StreamPlace,

@@ -107,10 +107,10 @@ fn output(case: &Case, answer: &Answer) -> (u64, Vec<u8>) {
 /// How many slots a reader's result array has.
 fn slots(function: u8) -> usize {
     match function {
-        19 | 30 => 1,
+        19 | 30 | 47 => 1,
         1..=3 | 23 | 24 => 2,
         4 | 5 => 3,
-        21 | 22 | 25 | 26 | 32 => 4,
+        21 | 22 | 25 | 26 | 32 | 48 => 4,
         27 | 28 | 31 => 5,
         33 => 11,
         _ => 15,
@@ -133,11 +133,11 @@ fn array(function: u8, answer: &Answer) -> Option<Vec<u64>> {
 fn numbers(function: u8, n: &[u64], next: u64) -> Vec<u64> {
     match function {
         4 | 5 => vec![next - n[0], n[0], next], // bytes, by place and length
-        18 | 20 | 29 => [&n[..14], &[next]].concat(), // an entry, without its features
+        18 | 20 | 29 | 46 => [&n[..14], &[next]].concat(), // an entry, without its features
         27 | 28 => [&n[..4], &[next]].concat(), // a message, without its items
-        30 => vec![n[0]],                       // an id's place
+        30 | 47 => vec![n[0]],                  // an id's place
         31 => vec![n[0], n[2], n[3], next, n[4]], // a payload, without its id's length; the total
-        32 => vec![n[0], n[2], n[3], next],
+        32 | 48 => vec![n[0], n[2], n[3], next],
         _ => [n, &[next]].concat(),
     }
 }

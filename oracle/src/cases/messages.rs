@@ -4,7 +4,7 @@
 use super::fields::{entry, padded, Wrong, NEVER};
 use super::numbers::{edge_number, vlq_bytes};
 use crate::case::{unhex, Case};
-use crate::kinds::{brief, damage, networks, places, short, with, Kind, Visit};
+use crate::kinds::{brief, changed, damage, networks, places, short, with, Kind, Visit};
 use crate::rng::Rng;
 use crate::rust::messages::{starts, MOST};
 use crate::rust::LIMIT;
@@ -73,6 +73,35 @@ pub fn indexed_payloads(count: u64) -> Vec<Kind> {
     let lists = [Kind::edges(edges(&[33])), short(2), payload_counts(), totals()];
     let kinds = lists.into_iter().chain(of_bodies(count, |rng| payloads(rng, AT_TIMES)));
     kinds.map(|kind| with(kind, 0, |case| near(case, items(33, case)))).collect()
+}
+
+/// Each body between other bytes, with its place and length before its numbers; and bodies that are
+/// not inside.
+pub fn in_stream(kinds: Vec<Kind>) -> Vec<Kind> {
+    let mut surrounded: Vec<Kind> = kinds.into_iter().map(|kind| changed(kind, surround)).collect();
+    surrounded.push(Kind::random("outside", 20_000, |rng, visit| {
+        let mut case = Case::default();
+        let length = rng.below(40);
+        rng.append(&mut case.bytes, length);
+        for start in places(rng, length) {
+            for n in places(rng, length) {
+                case.words[..2].copy_from_slice(&[start, n]);
+                visit(&case);
+            }
+        }
+    }));
+    surrounded
+}
+
+/// Up to 8 bytes before a body and after it.
+fn surround(case: &mut Case) {
+    let length = case.bytes.len();
+    let sum: usize = case.bytes.iter().map(|b| *b as usize).sum();
+    let (before, after) = (1 + (length + sum) % 8, sum % 9);
+    let bytes = [&vec![0x5a; before], &case.bytes[..], &vec![0xa5; after]].concat();
+    case.bytes = bytes;
+    case.words.rotate_right(2);
+    case.words[..2].copy_from_slice(&[before as u64, length as u64]);
 }
 
 /// How many items a message has, if the Rust reads it.

@@ -69,10 +69,13 @@ pub fn entry_by_index(body: &[u8], cap: usize, index: usize) -> Answer {
 
 pub fn id_by_index(body: &[u8], index: usize) -> Answer {
     let result = call(|r| unsafe { haspeljo_id_by_index(body.as_ptr(), body.len(), index, r) });
-    reached(result, |[place]| {
-        let id = part_at(body, place, 32);
-        (id.map(|id| Value::List(vec![Value::Unsigned(place), id])), place.wrapping_add(32))
-    })
+    reached(result, |r| id(body, r))
+}
+
+/// An id with its place, and where it ends.
+fn id(body: &[u8], [place]: [u64; 1]) -> (Option<Value>, u64) {
+    let id = part_at(body, place, 32);
+    (id.map(|id| Value::List(vec![Value::Unsigned(place), id])), place.wrapping_add(32))
 }
 
 pub fn read_payload(body: &[u8], at: usize, total: usize) -> Answer {
@@ -101,4 +104,26 @@ pub fn payload_by_index(body: &[u8], index: usize) -> Answer {
 fn payload(body: &[u8], [id, place, length, next]: [u64; 4]) -> Option<Vec<Value>> {
     let [id_bytes, bytes] = [part_at(body, id, 32)?, part(body, place, length, next)?];
     Some(vec![Value::Unsigned(id), id_bytes, Value::Unsigned(place), bytes])
+}
+
+// ---- by index from a message of a session, with places in the session
+
+pub fn entry_in_stream(s: &[u8], [start, length]: [usize; 2], cap: usize, index: usize) -> Answer {
+    let result = call(|r| unsafe {
+        haspeljo_entry_in_stream(s.as_ptr(), s.len(), start, length, cap, index, r)
+    });
+    reached(result, |r| (entries::entry(s, r), r[14]))
+}
+
+pub fn id_in_stream(s: &[u8], [start, length]: [usize; 2], index: usize) -> Answer {
+    let result =
+        call(|r| unsafe { haspeljo_id_in_stream(s.as_ptr(), s.len(), start, length, index, r) });
+    reached(result, |r| id(s, r))
+}
+
+pub fn payload_in_stream(s: &[u8], [start, length]: [usize; 2], index: usize) -> Answer {
+    let result = call(|r| unsafe {
+        haspeljo_payload_in_stream(s.as_ptr(), s.len(), start, length, index, r)
+    });
+    reached(result, |r| (payload(s, r).map(Value::List), r[3]))
 }

@@ -104,10 +104,21 @@ fn entry_places(body: &[u8], count: usize) -> io::Result<Vec<u64>> {
 }
 
 pub fn entry_by_index(body: &[u8], cap: u64, index: u64) -> Expected {
+    entry_in_stream(body, [0, body.len() as u64], cap, index)
+}
+
+/// The entry with an index of the body that stands there, with its places in s. The Rust reads the
+/// body alone; a body outside is document 01's 12.
+pub fn entry_in_stream(s: &[u8], [start, length]: [u64; 2], cap: u64, index: u64) -> Expected {
+    let Some(body) = body_at(s, start, length) else { return refused(12) };
     by_index(parse_peers_body(body, cap as usize), index, |specs, i| {
         let places = entry_places(body, i + 1)?;
-        Ok((entries::entry(0, body, places[i], &specs[i])?, places[i + 1]))
+        Ok((entries::entry(0, s, start + places[i], &specs[i])?, start + places[i + 1]))
     })
+}
+
+fn body_at(s: &[u8], start: u64, length: u64) -> Option<&[u8]> {
+    s.get(start as usize..)?.get(..length as usize)
 }
 
 /// The item of an index in what the Rust reads. It has no index outside: that 12 is document 01's.
@@ -126,12 +137,17 @@ fn by_index<T>(
 
 /// An id with its place, and where it ends.
 pub fn id_by_index(body: &[u8], index: u64) -> Expected {
+    id_in_stream(body, [0, body.len() as u64], index)
+}
+
+pub fn id_in_stream(s: &[u8], [start, length]: [u64; 2], index: u64) -> Expected {
+    let Some(body) = body_at(s, start, length) else { return refused(12) };
     let ids = of_code(MessageCode::INV, body).map(|message| match message {
         ProtocolMessage::Inv { ids, .. } => ids,
         other => unreachable!("{other:?}"),
     });
     by_index(ids, index, |ids, i| {
-        let place = counted(body)?.1 + ID * i as u64;
+        let place = start + counted(body)?.1 + ID * i as u64;
         let id = Value::Bytes(ids[i].to_vec());
         Ok((Value::List(vec![Value::Unsigned(place), id]), place + ID))
     })
@@ -139,9 +155,15 @@ pub fn id_by_index(body: &[u8], index: u64) -> Expected {
 
 /// A payload: its id and its bytes, each with its place, and where it ends.
 pub fn payload_by_index(body: &[u8], index: u64) -> Expected {
+    payload_in_stream(body, [0, body.len() as u64], index)
+}
+
+pub fn payload_in_stream(s: &[u8], [start, length]: [u64; 2], index: u64) -> Expected {
+    let Some(body) = body_at(s, start, length) else { return refused(12) };
     by_index(modifiers(body), index, |modifiers, i| {
         let (places, next) = payload_places(body, counted(body)?.1, &modifiers[..=i]);
-        Ok((Value::List(payload(places[i], &modifiers[i])), next))
+        let places = places[i].map(|place| start + place);
+        Ok((Value::List(payload(places, &modifiers[i])), start + next))
     })
 }
 

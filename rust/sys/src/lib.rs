@@ -119,6 +119,31 @@ extern "C" {
         at: usize,
         r: *mut [u64; 11],
     ) -> u8;
+    pub fn haspeljo_entry_in_stream(
+        s: *const u8,
+        n: usize,
+        start: usize,
+        length: usize,
+        cap: usize,
+        index: usize,
+        r: *mut [u64; 15],
+    ) -> u8;
+    pub fn haspeljo_id_in_stream(
+        s: *const u8,
+        n: usize,
+        start: usize,
+        length: usize,
+        index: usize,
+        r: *mut [u64; 1],
+    ) -> u8;
+    pub fn haspeljo_payload_in_stream(
+        s: *const u8,
+        n: usize,
+        start: usize,
+        length: usize,
+        index: usize,
+        r: *mut [u64; 4],
+    ) -> u8;
 
     pub fn haspeljo_write_entry(
         out: *mut u8,

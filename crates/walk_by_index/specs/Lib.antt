@@ -1,0 +1,4 @@
+pub mod InStream
+pub mod Answers
+pub mod InStreamLaws
+pub mod Cases

@@ -1,0 +1,167 @@
+// What is reached by index from an item of the stream, with its places in the stream: an entry, an id or a payload of a message, given the stream and
+// where the message's body stands in it.
+ghost use mathlib.Core.Path.{_≡_};
+ghost use Rattle.walk_by_index.specs.InStream.{isInside, inStream, streamPart, streamEntry, streamPayload, entryInStream, idInStream, payloadInStream};
+ghost use Rattle.walk_by_index.specs.Answers.{streamEntryAnswer, streamIdAnswer, streamPayloadAnswer};
+use frame_read::StreamPart;
+use handshake_read::PeerSpec;
+use messages_inventory_read::IdRead;
+use messages_inventory_read::Payload;
+use messages_inventory_read::PayloadAt;
+use messages_read::PeerRead;
+use types::Address;
+use types::BodyPlace;
+use types::Located;
+use types::StreamPlace;
+use types::Version;
+use wire::Part;
+
+// The features of an entry: how many there are, and the place of the first.
+pub struct StreamFeatures {
+    pub count: u8,
+    pub start: StreamPlace,
+}
+
+// An entry of a Peers message.
+pub struct StreamEntry {
+    pub agent: StreamPart,
+    pub version: Version,
+    pub name: StreamPart,
+    pub address: Address,
+    pub features: StreamFeatures,
+}
+
+// A payload: the place of its id, and where its bytes stand.
+pub struct StreamPayload {
+    pub id: StreamPlace,
+    pub bytes: StreamPart,
+}
+
+// An entry and the place where it ends, or the refusal's number.
+pub enum StreamEntryRead {
+    Value(StreamEntry, StreamPlace),
+    Refused(u8),
+}
+
+// The place of an id.
+pub enum StreamIdRead {
+    Value(StreamPlace),
+    Refused(u8),
+}
+
+// A payload and the place where it ends.
+pub enum StreamPayloadRead {
+    Value(StreamPayload, StreamPlace),
+    Refused(u8),
+}
+
+// An entry of the Peers message whose body is given, by index.
+pub fn entry_in_stream(s: &[u8], body: StreamPart, cap: usize, index: usize) -> StreamEntryRead
+    ensures { λ r. ⌜ streamEntryAnswer r ≡ entryInStream cap index (now (s .entry)) body ⌝ }
+{
+    if !is_inside(s, body) {
+        return StreamEntryRead::Refused(12);
+    }
+    let from = body.start.0;
+    let to = from + body.len;
+    match messages_read::entry_by_index(&s[from..to], cap, index) {
+        PeerRead::Value(peer, end) => StreamEntryRead::Value(
+            entry_places(peer, body),
+            in_stream(end, body),
+        ),
+        PeerRead::Refused(m) => StreamEntryRead::Refused(m),
+    }
+}
+
+// The place of an id of the ModifierRequest or Inv message whose body is given, by index.
+pub fn id_in_stream(s: &[u8], body: StreamPart, index: usize) -> StreamIdRead
+    ensures { λ r. ⌜ streamIdAnswer r ≡ idInStream index (now (s .entry)) body ⌝ }
+{
+    if !is_inside(s, body) {
+        return StreamIdRead::Refused(12);
+    }
+    let from = body.start.0;
+    let to = from + body.len;
+    match messages_inventory_read::id_by_index(&s[from..to], index) {
+        IdRead::Value(id) => StreamIdRead::Value(in_stream(id, body)),
+        IdRead::Refused(m) => StreamIdRead::Refused(m),
+    }
+}
+
+// A payload of the ModifierResponse message whose body is given, by index.
+pub fn payload_in_stream(s: &[u8], body: StreamPart, index: usize) -> StreamPayloadRead
+    ensures { λ r. ⌜ streamPayloadAnswer r ≡ payloadInStream index (now (s .entry)) body ⌝ }
+{
+    if !is_inside(s, body) {
+        return StreamPayloadRead::Refused(12);
+    }
+    let from = body.start.0;
+    let to = from + body.len;
+    match messages_inventory_read::payload_by_index(&s[from..to], index) {
+        PayloadAt::Value(p, end) => StreamPayloadRead::Value(
+            payload_places(p, body),
+            in_stream(end, body),
+        ),
+        PayloadAt::Refused(m) => StreamPayloadRead::Refused(m),
+    }
+}
+
+// Are all bytes of a part in the stream?
+fn is_inside(s: &[u8], part: StreamPart) -> bool
+    ensures { λ r. ⌜ r ≡ isInside (now (s .entry)) part ⌝ }
+{
+    let from = part.start.0;
+    if s.len() < from {
+        return false;
+    }
+    part.len <= s.len() - from
+}
+
+// A place of the body as a place in the stream; of one outside, which no reader gives, the body's start.
+fn in_stream(at: BodyPlace, body: StreamPart) -> StreamPlace
+    ensures { λ r. ⌜ r ≡ inStream body (at .0) ⌝ }
+{
+    match at.in_stream(body.start, body.len) {
+        Located::At(place) => place,
+        Located::Refused(m) => body.start,
+    }
+}
+
+fn part_in_stream(part: Part, body: StreamPart) -> StreamPart
+    ensures { λ r. ⌜ r ≡ streamPart body part ⌝ }
+{
+    let start = in_stream(BodyPlace(part.start), body);
+    StreamPart {
+        start,
+        len: part.len,
+    }
+}
+
+fn entry_places(peer: PeerSpec, body: StreamPart) -> StreamEntry
+    ensures { λ r. ⌜ r ≡ streamEntry body peer ⌝ }
+{
+    let agent = part_in_stream(peer.agent, body);
+    let name = part_in_stream(peer.name, body);
+    let start = in_stream(BodyPlace(peer.features.start), body);
+    let version = peer.version;
+    let address = peer.address;
+    let count = peer.features.count;
+    StreamEntry {
+        agent,
+        version,
+        name,
+        address,
+        features: StreamFeatures { count, start },
+    }
+}
+
+fn payload_places(p: Payload, body: StreamPart) -> StreamPayload
+    ensures { λ r. ⌜ r ≡ streamPayload body p ⌝ }
+{
+    let id = in_stream(p.id, body);
+    let start = in_stream(p.start, body);
+    StreamPayload {
+        id,
+        bytes: StreamPart { start, len: p.len },
+    }
+}
