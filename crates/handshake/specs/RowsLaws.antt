@@ -1,6 +1,7 @@
 -- Rows of a table, one after the other from i on: what a loop over n rows has still to do.
 use Prim.Native.Nat.{ℕ, zero, suc, _+_, _-_, _≤_, _<_}
-use native.Mathlib.Nat.{add-zero, sub-zero}
+use native.Mathlib.Nat.{add-zero, zero-add, sub-zero}
+use native.Mathlib.Numerals.{add-one}
 use native.Mathlib.Omega.{arith}
 use mathlib.Core.Bool.{Bool, true, false, _&&_}
 use mathlib.Core.List.{List, [], _∷_, _++_, map, flatMap}
@@ -31,6 +32,18 @@ module _ {A : Type 0} (f : ℕ → A) where
   rows-past b i (suc n) =
       let e : b + (i + 1) ≡ b + i + 1 = omega arith in
       ap (λ (l : List A). f (b + i) ∷ l) (rows-past b (i + 1) n ∙ ap (λ (k : ℕ). rows f k n) e)
+
+  -- one row more
+  rows-snoc : (n i : ℕ) → rows f i (suc n) ≡ rows f i n ++ (f (i + n) ∷ [])
+  unfolding rows
+  rows-snoc zero i = rw add-zero
+  rows-snoc (suc n) i =
+      let e : i + 1 + n ≡ i + suc n = omega arith in
+      ap (λ (l : List A). f i ∷ l) (rows-snoc n (i + 1) ∙ ap (λ (k : ℕ). rows f (i + 1) n ++ (f k ∷ [])) e)
+
+  pub rows-last : (n : ℕ) → rows f 0 (n + 1) ≡ rows f 0 n ++ (f n ∷ [])
+  rows-last n =
+      ap (rows f 0) (add-one n) ∙ rows-snoc n 0 ∙ ap (λ (k : ℕ). rows f 0 n ++ (f k ∷ [])) (zero-add n)
 
   -- the n rows from b on, counted from 0
   pub rows-from : (b n : ℕ) → rows (λ k. f (b + k)) 0 n ≡ rows f b n

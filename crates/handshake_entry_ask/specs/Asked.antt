@@ -1,39 +1,65 @@
--- What is said of the entries of a table (document 01, "Questions", Writers): the number of the first question answered "no", or how many bytes
--- are written.
+-- What is said of entries before they are written (document 01, "Questions", Writers): how many bytes they are written as, or the number of the
+-- first question answered "no".
 use Prim.Native.Nat.{ℕ, _+_, min}
-use mathlib.Core.List.{List, [], _∷_, flatMap}
+use mathlib.Core.Bool.{cond}
+use mathlib.Core.List.{List, [], _∷_, _++_, map, flatMap}
+use lib.Dec.{leb}
 use lib.ListN.{length}
 use Rattle.wire.specs.Bytes.{every}
-use Rattle.wire.specs.Output.{Question, ask, asked}
-use Rattle.wire.specs.declared.Written.{Written}
-use Rattle.wire.specs.declared.Written.the-variants.{To}
+use Rattle.wire.specs.Output.{Question, ask, sized}
+use Rattle.wire.specs.declared.Size.{Size}
+use Rattle.wire.specs.declared.Size.the-variants.{Bytes, Refused}
 use Rattle.vlq.specs.Vlq.{limit}
+use Rattle.vlq.specs.ShortString.{shortStringBytes}
 use Rattle.handshake.specs.declared.EntryRow.{EntryRow}
 use Rattle.handshake.specs.Value.{entryBytes, entriesAsked}
-use Rattle.handshake.specs.Tables.{Lent, entryRows, entriesOf, tablesWhole, entryInside}
+use Rattle.handshake.specs.Tables.{Lent, lent, entryRows, bytesAt, entryOf, entriesOf, tablesWhole, entryInside}
 use Rattle.handshake.specs.Writes.{entryAt, rowAsked}
-use Rattle.handshake_entry_questions.specs.Questions.{rowHolds}
-use Rattle.handshake_entry_questions.specs.declared.About.the-variants.{Inside, Short, Utf8, Count, Lengths}
 
--- of all entries, at most limit + 1
-unfoldable pub entriesSaid : Lent → Written
-entriesSaid l =
-    asked
-    (ask 16 (tablesWhole l) ∷ (ask 12 (every (entryInside l) (entryRows l)) ∷ entriesAsked (entriesOf l)))
-    (To (min (length (flatMap entryBytes (entriesOf l))) (limit + 1)))
+-- of the entry of a row, after 16
+unfoldable pub rowSize : List ℕ → List ℕ → EntryRow → Size
+rowSize features buffer r =
+    let l = lent [] features buffer in
+    sized (ask 12 (entryInside l r) ∷ entriesAsked (entryOf l r ∷ [])) (length (entryBytes (entryOf l r)))
 
 -- of the entry in row k
-unfoldable pub entrySaid : Lent → ℕ → Written
-entrySaid l k = asked (ask 16 (tablesWhole l) ∷ rowAsked l k) (To (length (entryBytes (entryAt l k))))
+unfoldable pub entrySize : Lent → ℕ → Size
+entrySize l k = sized (ask 16 (tablesWhole l) ∷ rowAsked l k) (length (entryBytes (entryAt l k)))
+
+-- the questions of all entries after 16; the entries are the end of a body, `before` bytes of which stand before them
+abbrev pub rowsAsked : Lent → ℕ → List Question
+rowsAsked l before =
+    ask 12 (every (entryInside l) (entryRows l))
+    ∷ (entriesAsked (entriesOf l)
+    ++ (ask 7 (leb (before + length (flatMap entryBytes (entriesOf l))) limit)
+    ∷ []))
+
+unfoldable pub entriesSize : Lent → ℕ → Size
+entriesSize l before = sized (ask 16 (tablesWhole l) ∷ rowsAsked l before) (length (flatMap entryBytes (entriesOf l)))
 
 -- ---- Only for laws, proofs and private functions: no public contract and no theorem cites what follows.
 
--- the questions after 16 of some rows, each over all of them
-abbrev pub questionsOf : List ℕ → List ℕ → List EntryRow → List Question
-questionsOf features buffer rs =
-    ask 12 (every (rowHolds Inside features buffer) rs)
-    ∷ ask 13 (every (rowHolds Short features buffer) rs)
-    ∷ ask 4 (every (rowHolds Utf8 features buffer) rs)
-    ∷ ask 15 (every (rowHolds Count features buffer) rs)
-    ∷ ask 3 (every (rowHolds Lengths features buffer) rs)
-    ∷ []
+-- of the entries of some rows, before the body's question
+unfoldable pub sizeOf : Lent → List EntryRow → Size
+sizeOf l rs =
+    sized (ask 12 (every (entryInside l) rs) ∷ entriesAsked (map (entryOf l) rs)) (length (flatMap entryBytes (map (entryOf l) rs)))
+
+-- the numbers of a row's questions in their order
+abbrev pub rowNumbers : List ℕ
+rowNumbers = 12 ∷ 13 ∷ 4 ∷ 15 ∷ 3 ∷ []
+
+-- bytes counted up to the limit and one more
+unfoldable pub counted : Size → Size
+counted (Bytes n) = Bytes (min n (limit + 1))
+counted (Refused m) = Refused m
+
+-- with the body's question
+unfoldable pub bodySize : ℕ → Size → Size
+bodySize before (Bytes n) = cond (leb (before + n) limit) (Bytes n) (Refused 7)
+bodySize before (Refused m) = Refused m
+
+-- agent, version and name
+unfoldable pub headBytes : List ℕ → EntryRow → List ℕ
+headBytes buffer r =
+    shortStringBytes (bytesAt buffer (r .agentat) (r .agentlen))
+    ++ ((r .major ∷ r .minor ∷ r .patch ∷ []) ++ shortStringBytes (bytesAt buffer (r .nameat) (r .namelen)))

@@ -1,117 +1,146 @@
--- Laws of what is said of one row and of all: the questions row by row are those of the values; where each is answered "yes" for every row, none
--- refuses, and otherwise one does. And the place and the room beside a row's questions.
-use Prim.Native.Nat.{ℕ, _+_, _/_, _≤_, _<_, min}
-use mathlib.Core.Bool.{Bool, true, false, _&&_}
-use mathlib.Core.List.{List, [], _∷_, flatMap}
+-- Laws of what is said of one row and of all: the questions of a row, in their order; those of all rows, asked row by row; the body's question.
+use Prim.Native.Nat.{ℕ, suc, _+_, _/_, _≤_, _<_, min}
+use native.Mathlib.Numerals.{add-one}
+use native.Mathlib.Omega.{arith}
+use mathlib.Core.Bool.{Bool, true, false, cond, _&&_}
+use mathlib.Core.List.{List, [], _∷_, _++_, map, flatMap, append-nil, map-append}
+use mathlib.Core.Logic.{⊎-elim}
 use mathlib.Core.Path.{_≡_, refl, sym, ap, _∙_}
-use lib.ListN.{length}
-use borrow.Author.Tests.{lt-ltb, le-ltb}
+use lib.Dec.{leb}
+use lib.ListN.{length, length-append}
+use borrow.Author.Tests.{lt-ltb, le-ltb, lt-leb}
 use Rattle.wire.specs.Bytes.{every}
-use Rattle.wire.specs.BytesLaws.{and-true}
-use Rattle.wire.specs.Output.{ask, asked}
-use Rattle.wire.specs.OutputLaws.{AllHold}
-use Rattle.wire.specs.declared.Written.the-variants.{To, Refused}
-use Rattle.wire_output.specs.Asked.{writtenFor, placed}
-use Rattle.wire_output.specs.AskedLaws.{Without16, placed-asked}
-use Rattle.handshake.specs.declared.EntryRow.{EntryRow}
+use Rattle.wire.specs.BytesLaws.{every-append, flatMap-append}
+use Rattle.wire.specs.Numbers.{lt-or-ge}
+use Rattle.wire.specs.Output.{Question, ask, sized}
+use Rattle.wire.specs.Earliest.{together, twice, fresh, distinct}
+use Rattle.wire.specs.EarliestLaws.{earliest}
+use Rattle.wire.specs.declared.Size.{Size}
+use Rattle.wire.specs.declared.Size.the-variants.{Bytes, Refused}
 use Rattle.vlq.specs.Vlq.{limit}
-use Rattle.handshake.specs.Value.{entryBytes, entriesAsked}
-use Rattle.handshake.specs.Tables.{Lent, rows, entryRow, entryRows, entriesOf, tablesWhole, entryInside}
-use Rattle.handshake.specs.Writes.{entryAt, rowInside, rowAsked}
+use Rattle.handshake.specs.declared.EntryRow.{EntryRow}
+use Rattle.handshake.specs.Value.{entryBytes, shortStrings, utf8Strings, fewFeatures, lengthsWithin, entriesAsked}
+use Rattle.handshake.specs.Tables.{Lent, lent, rows, entryRow, entryRows, entryOf, entriesOf, tablesWhole, entryInside}
+use Rattle.handshake.specs.RowsLaws.{rows-last}
+use Rattle.handshake.specs.Writes.{rowInside}
 use Rattle.handshake_entry_rows.specs.ValueLaws.{own-entry, own-inside}
-use Rattle.handshake_entry_questions.specs.Questions.{rowHolds, rowYes}
-use Rattle.handshake_entry_questions.specs.QuestionsLaws.{rows-inside, rows-short, rows-utf8, rows-count, rows-lengths}
-use Rattle.handshake_entry_questions.specs.declared.About.the-variants.{Inside, Short, Utf8, Count, Lengths}
-use Rattle.handshake_entry_ask.specs.Asked.{entriesSaid, entrySaid, questionsOf}
+use Rattle.handshake_entry_ask.specs.Asked.{rowSize, entrySize, entriesSize, sizeOf, rowNumbers, counted, bodySize}
 
--- ---- every question of every row
-
-every-and : {A : Type 0} (t u : A → Bool) (l : List A) → every (λ a. t a && u a) l ≡ every t l && every u l
-unfolding every
-every-and t u [] = refl
-every-and t u (a ∷ l) = ap (λ (b : Bool). t a && u a && b) (every-and t u l) ∙ go (t a) (u a) (every t l) (every u l)
-  where
-    go : (p q r s : Bool) → p && q && (r && s) ≡ p && r && (q && s)
-    go true true r s = refl
-    go true false true s = refl
-    go true false false s = refl
-    go false q r s = refl
-
-and-right : (b : Bool) → b && true ≡ b
+pub and-right : (b : Bool) → b && true ≡ b
 and-right true = refl
 and-right false = refl
 
-module _ (features buffer : List ℕ) (rs : List EntryRow) where
-  every-yes : every (rowYes features buffer) rs
-      ≡ every (rowHolds Inside features buffer) rs
-      && (every (rowHolds Short features buffer) rs
-      && (every (rowHolds Utf8 features buffer) rs
-      && (every (rowHolds Count features buffer) rs
-      && every (rowHolds Lengths features buffer) rs)))
-  unfolding rowYes
-  every-yes =
-      every-and (rowHolds Inside features buffer) _ rs
-      ∙ ap (λ (b : Bool). every (rowHolds Inside features buffer) rs && b)
-      (every-and (rowHolds Short features buffer) _ rs
-      ∙ ap (λ (b : Bool). every (rowHolds Short features buffer) rs && b)
-      (every-and (rowHolds Utf8 features buffer) _ rs
-      ∙ ap (λ (b : Bool). every (rowHolds Utf8 features buffer) rs && b)
-      (every-and (rowHolds Count features buffer) (rowHolds Lengths features buffer) rs)))
-
-  -- each is answered "yes"
-  pub all-yes : every (rowYes features buffer) rs ≡ true → AllHold (questionsOf features buffer rs)
-  all-yes h =
-      let i = and-true (every (rowHolds Inside features buffer) rs) _ (sym every-yes ∙ h) in
-      let s = and-true (every (rowHolds Short features buffer) rs) _ (i .1) in
-      let u = and-true (every (rowHolds Utf8 features buffer) rs) _ (s .1) in
-      let k = and-true (every (rowHolds Count features buffer) rs) _ (u .1) in
-      (i .0, (s .0, (u .0, (k .0, (k .1, tt)))))
-
-  -- one is answered "no", and none of the first four
-  pub last-no : every (rowYes features buffer) rs ≡ false
-      → every (rowHolds Inside features buffer) rs ≡ true
-      → every (rowHolds Short features buffer) rs ≡ true
-      → every (rowHolds Utf8 features buffer) rs ≡ true
-      → every (rowHolds Count features buffer) rs ≡ true
-      → every (rowHolds Lengths features buffer) rs ≡ false
-  last-no h i s u k = rw (i, s, u, k) at (sym every-yes ∙ h)
-
--- ---- of all rows, and of one
-
--- the one row from k on
-pub one-row : {A : Type 0} (test : A → Bool) (f : ℕ → A) (k : ℕ) (b : Bool) → test (f k) ≡ b → every test (rows f k 1) ≡ b
-unfolding every rows
-one-row test f k b e = rw e (and-right b)
-
-module _ (l : Lent) where
-  pub entries-broken : tablesWhole l ≡ false → entriesSaid l ≡ Refused 16
-  unfolding entriesSaid asked
-  entries-broken e = rw e
-
-  pub entries-rows : tablesWhole l ≡ true → entriesSaid l ≡ asked (questionsOf (l .features) (l .buffer) (entryRows l)) (To (min (length (flatMap entryBytes (entriesOf l))) (limit + 1)))
-  unfolding entriesSaid entriesAsked asked
-  entries-rows e = rw (e, rows-inside l, rows-short l, rows-utf8 l, rows-count l, rows-lengths l)
+-- ---- one row
 
 module _ (l : Lent) (k : ℕ) where
-  pub entry-broken : tablesWhole l ≡ false → entrySaid l k ≡ Refused 16
-  unfolding entrySaid asked
+  pub entry-broken : tablesWhole l ≡ false → Refused 16 ≡ entrySize l k
+  unfolding entrySize sized
   entry-broken e = rw e
 
   module _ (e : tablesWhole l ≡ true) where
-    pub entry-outside : length (l .entries) / 12 ≤ k → entrySaid l k ≡ Refused 12
-    unfolding entrySaid rowInside asked
+    pub entry-outside : length (l .entries) / 12 ≤ k → Refused 12 ≡ entrySize l k
+    unfolding entrySize rowInside sized
     entry-outside h = rw (e, le-ltb k (length (l .entries) / 12) h)
 
-    pub entry-row : k < length (l .entries) / 12
-        → entrySaid l k ≡ asked (questionsOf (l .features) (l .buffer) (rows (entryRow (l .entries)) k 1)) (To (length (entryBytes (entryAt l k))))
-    unfolding entrySaid rowInside entriesAsked asked every rows rowHolds
+    pub entry-row : k < length (l .entries) / 12 → rowSize (l .features) (l .buffer) (entryRow (l .entries) k) ≡ entrySize l k
+    unfolding entrySize rowSize rowInside sized
     entry-row h =
         let r = entryRow (l .entries) k in
-        rw (e, lt-ltb k (length (l .entries) / 12) h, own-inside l r, own-entry l r, and-right (entryInside l r))
+        rw (e, lt-ltb k (length (l .entries) / 12) h, own-inside l r, own-entry l r)
 
--- ---- the place and the room
+-- ---- rows one after the other
 
-pub placed-row : (len at n : ℕ) (whole : Bool) (l : Lent) (k : ℕ)
-    → placed len at (asked (ask 16 whole ∷ rowAsked l k) (To n)) ≡ writtenFor (ask 16 whole ∷ []) (rowAsked l k) len at n
-unfolding entriesAsked Without16
-placed-row len at n whole l k = placed-asked len at n whole (rowAsked l k) (refl, (refl, (refl, (refl, (refl, tt)))))
+module _ (l : Lent) where
+  -- one row
+  one-row : (r : EntryRow) → rowSize (l .features) (l .buffer) r ≡ sizeOf l (r ∷ [])
+  unfolding rowSize sizeOf every flatMap
+  one-row r = rw (own-inside l r, own-entry l r, and-right (entryInside l r), append-nil (entryBytes (entryOf l r)))
+
+  -- the first question that one of them fails is the first that all of them are asked and fail
+  rows-then : (a b : List EntryRow) → sizeOf l (a ++ b) ≡ together rowNumbers (sizeOf l a) (sizeOf l b)
+  unfolding sizeOf entriesAsked distinct fresh
+  rows-then a b =
+      let v = map (entryOf l) a in
+      let w = map (entryOf l) b in
+      rw (
+        every-append (entryInside l) a b,
+        map-append (entryOf l) a b,
+        every-append shortStrings v w,
+        every-append utf8Strings v w,
+        every-append fewFeatures v w,
+        every-append lengthsWithin v w,
+        flatMap-append entryBytes v w,
+        length-append (flatMap entryBytes v) (flatMap entryBytes w),
+      )
+      (earliest
+      (twice 12 (every (entryInside l) a) (every (entryInside l) b)
+      ∷ twice 13 (every shortStrings v) (every shortStrings w)
+      ∷ twice 4 (every utf8Strings v) (every utf8Strings w)
+      ∷ twice 15 (every fewFeatures v) (every fewFeatures w)
+      ∷ twice 3 (every lengthsWithin v) (every lengthsWithin w)
+      ∷ [])
+      (length (flatMap entryBytes v)) (length (flatMap entryBytes w)) refl)
+
+counted-then : (ns : List ℕ) (a b : Size) → counted (together ns (counted a) b) ≡ counted (together ns a b)
+unfolding counted together
+counted-then ns (Bytes m) (Bytes n) = ap Bytes (omega arith)
+counted-then ns (Bytes m) (Refused q) = refl
+counted-then ns (Refused p) (Bytes n) = refl
+counted-then ns (Refused p) (Refused q) = refl
+
+-- the rows before k were asked
+pub record SizeSoFar (l : Lent) (k : ℕ) (s : Size) : Type 0 where
+  pub same : s ≡ counted (sizeOf l (rows (entryRow (l .entries)) 0 k))
+
+pub size-start : (l : Lent) → SizeSoFar l 0 (Bytes 0)
+unfolding counted sizeOf rows entriesAsked sized every flatMap
+size-start l = record { same = refl }
+
+module _ {l : Lent} {k : ℕ} {s : Size} (inv : SizeSoFar l k s) where
+  pub size-turn : {own r : Size} → own ≡ rowSize (l .features) (l .buffer) (entryRow (l .entries) k) → r ≡ counted (together rowNumbers s own) → SizeSoFar l (k + 1) r
+  size-turn {own} {r} e1 e2 =
+      let f = entryRow (l .entries) in
+      record {
+        same = e2
+            ∙ ap (λ (x : Size). counted (together rowNumbers x own)) (inv .same)
+            ∙ counted-then rowNumbers (sizeOf l (rows f 0 k)) own
+            ∙ ap (λ (x : Size). counted (together rowNumbers (sizeOf l (rows f 0 k)) x)) (e1 ∙ one-row l (f k))
+            ∙ ap counted (sym (rows-then l (rows f 0 k) (f k ∷ [])) ∙ ap (sizeOf l) (sym (rows-last f k)));
+      }
+
+  pub size-end : k ≡ length (l .entries) / 12 → s ≡ counted (sizeOf l (entryRows l))
+  size-end e = inv .same ∙ ap (λ (n : ℕ). counted (sizeOf l (rows (entryRow (l .entries)) 0 n))) e
+
+-- ---- the body's question
+
+-- 7 is answered "no" of limit + 1 bytes as of any more
+body-most : (before n : ℕ) → bodySize before (Bytes (min n (limit + 1))) ≡ bodySize before (Bytes n)
+unfolding bodySize
+body-most before n =
+    ⊎-elim
+    (λ (h : n < limit + 1). let e : min n (limit + 1) ≡ n = omega arith in rw e)
+    (λ (h : limit + 1 ≤ n).
+    let e : min n (limit + 1) ≡ limit + 1 = omega arith in
+    rw (e, lt-leb (before + (limit + 1)) limit (omega arith), lt-leb (before + n) limit (omega arith)))
+    (lt-or-ge n (limit + 1))
+
+body-last : (before n : ℕ) (qs : List Question) → bodySize before (counted (sized qs n)) ≡ sized (qs ++ (ask 7 (leb (before + n) limit) ∷ [])) n
+unfolding bodySize counted sized
+body-last before n [] = body-most before n ∙ last
+  where
+    last : bodySize before (Bytes n) ≡ cond (leb (before + n) limit) (Bytes n) (Refused 7)
+    last = refl
+body-last before n (q ∷ qs) = go (q .holds) (sized qs n) (body-last before n qs)
+  where
+    go : (t : Bool) (s : Size) {r : Size} → bodySize before (counted s) ≡ r → bodySize before (counted (cond t s (Refused (q .number)))) ≡ cond t r (Refused (q .number))
+    go true s e = e
+    go false s e = refl
+
+module _ (l : Lent) (before : ℕ) where
+  pub entries-broken : tablesWhole l ≡ false → Refused 16 ≡ entriesSize l before
+  unfolding entriesSize sized
+  entries-broken e = rw e
+
+  pub entries-whole : tablesWhole l ≡ true → bodySize before (counted (sizeOf l (entryRows l))) ≡ entriesSize l before
+  unfolding entriesSize sizeOf sized entriesOf
+  entries-whole e = rw e (body-last before (length (flatMap entryBytes (map (entryOf l) (entryRows l)))) (ask 12 (every (entryInside l) (entryRows l)) ∷ entriesAsked (map (entryOf l) (entryRows l))))

@@ -1,3 +1,4 @@
 pub mod Asked
 pub mod AskedLaws
+pub mod LengthLaws
 pub mod RowLaws

@@ -1,20 +1,28 @@
 -- A row that is in its table is read as it stands there. The value of a row: known by the feature table and the buffer alone, with as many features
--- as the row says.
-use Prim.Native.Nat.{ℕ, _/_, _<_}
+-- as the row says. 16 is asked of the tables alone.
+use Prim.Native.Nat.{ℕ, _+_, _/_, _≤_, _<_}
+use native.Mathlib.Omega.{arith}
+use mathlib.Core.Bool.{true}
 use mathlib.Core.List.{List, []}
 use mathlib.Core.Path.{_≡_, refl, ap, _∙_}
 use lib.Dec.{leb}
 use lib.ListN.{length, length-map}
-use borrow.Author.Tests.{lt-ltb}
+use borrow.Author.Tests.{lt-ltb, leb-true}
+use Rattle.wire.specs.Bytes.{every}
 use Rattle.handshake.specs.declared.EntryRow.{EntryRow}
 use Rattle.handshake.specs.Value.{shortStrings, utf8Strings, fewFeatures}
-use Rattle.handshake.specs.Tables.{Lent, lent, entryRow, featureRow, ownRows, featureOf, entryOf, entryInside}
+use Rattle.handshake.specs.Tables.{Lent, lent, rows, entryRow, featureRow, ownRows, featureOf, entryOf, tablesWhole, inside, featureInside, entryInside}
+use Rattle.handshake.specs.TablesLaws.{every-row, parts-inside}
 use Rattle.handshake.specs.RowsLaws.{length-rows}
 use Rattle.handshake_entry_rows.specs.Row.{rowOrZeros}
 
 pub row-there : (t : List ℕ) (k : ℕ) → k < length t / 12 → rowOrZeros t k ≡ entryRow t k
 unfolding rowOrZeros
 row-there t k h = rw (lt-ltb k (length t / 12) h)
+
+pub own-whole : (l : Lent) → tablesWhole (lent (l .entries) (l .features) []) ≡ tablesWhole l
+unfolding tablesWhole
+own-whole l = refl
 
 pub own-entry : (l : Lent) (r : EntryRow) → entryOf (lent [] (l .features) (l .buffer)) r ≡ entryOf l r
 unfolding entryOf
@@ -39,3 +47,22 @@ own-utf8 l r = refl
 pub few-count : (l : Lent) (r : EntryRow) → fewFeatures (entryOf l r) ≡ leb (r .count) 255
 unfolding fewFeatures
 few-count l r = ap (λ (n : ℕ). leb n 255) (length-features l r)
+
+-- ---- the parts of a row that is inside
+
+module _ (l : Lent) (r : EntryRow) (parts : entryInside l r ≡ true) where
+  pub agent-part : r .agentat + r .agentlen ≤ length (l .buffer)
+  unfolding inside
+  agent-part = leb-true (r .agentat + r .agentlen) (length (l .buffer)) (parts-inside l r parts .agent)
+
+  pub name-part : r .nameat + r .namelen ≤ length (l .buffer)
+  unfolding inside
+  name-part = leb-true (r .nameat + r .namelen) (length (l .buffer)) (parts-inside l r parts .name)
+
+-- the body of one of n feature rows from i on
+pub part-inside : (buffer t : List ℕ) (i n k : ℕ) → every (featureInside buffer) (rows (featureRow t) i n) ≡ true → k < n
+    → featureRow t (i + k) .at + featureRow t (i + k) .len ≤ length buffer
+unfolding featureInside inside
+part-inside buffer t i n k h l =
+    let f = featureRow t (i + k) in
+    leb-true (f .at + f .len) (length buffer) (every-row (featureInside buffer) (featureRow t) n i (i + k) h (omega arith) (omega arith))

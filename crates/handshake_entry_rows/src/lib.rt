@@ -1,18 +1,24 @@
-// Rows of the tables that entries are written from, and the parts of the lent buffer that they name: what is not there is read as 0, or left out.
+// Rows of the tables that entries are written from, and question 16 of the tables (document 01, "Questions", Writers).
 ghost use mathlib.Core.Path.{_≡_};
-ghost use Prim.Native.Nat.{_+_, _-_, _*_, _≤_, min};
-ghost use lib.ListN.{length, getD};
-ghost use Rattle.handshake.specs.Tables.{featureRow, entryRow, bytesAt};
+ghost use mathlib.Core.List.{[]};
+ghost use Prim.Native.Nat.{_+_, _-_, _*_, _/_, _≤_};
+ghost use lib.ListN.{length};
+ghost use Rattle.wire.specs.Bytes.{every};
+ghost use Rattle.handshake.specs.Tables.{lent, rows, featureRow, entryRow, featureNumbers, entryNumbers, tablesWhole};
 ghost use Rattle.handshake_entry_rows.specs.Row.{rowOrZeros};
+use handshake::ENTRY_ROW_SIZE;
 use handshake::EntryRow;
-use handshake::FeatureRow;
+use handshake::FEATURE_ROW_SIZE;
+use handshake::IPV4_LENGTH;
+use handshake::IPV6_LENGTH;
+use handshake::PORT_COUNT;
 
 // Row k of an entry table; outside it a row of zeros.
 pub fn entry_at(t: &[u32], k: usize) -> EntryRow
     ensures { λ r. ⌜ r ≡ rowOrZeros (now (t .entry)) k ⌝ }
 {
-    if k < t.len() / 12 {
-        whole_entry(t, k)
+    if k < t.len() / ENTRY_ROW_SIZE {
+        entry_row(t, k)
     } else {
         EntryRow {
             agentat: 0,
@@ -31,11 +37,11 @@ pub fn entry_at(t: &[u32], k: usize) -> EntryRow
     }
 }
 
-fn whole_entry(t: &[u32], k: usize) -> EntryRow
+fn entry_row(t: &[u32], k: usize) -> EntryRow
     requires { ⌜ 12 * k + 12 ≤ length (now t) ⌝ }
     ensures { λ r. ⌜ r ≡ entryRow (now (t .entry)) k ⌝ }
 {
-    let b = 12 * k;
+    let b = ENTRY_ROW_SIZE * k;
     EntryRow {
         agentat: t[b],
         agentlen: t[b + 1],
@@ -52,49 +58,6 @@ fn whole_entry(t: &[u32], k: usize) -> EntryRow
     }
 }
 
-// Row k of a feature table, with 0 for each number that is not there.
-pub fn feature_at(t: &[u32], k: usize) -> FeatureRow
-    ensures { λ r. ⌜ r ≡ featureRow (now (t .entry)) k ⌝ }
-{
-    if k < t.len() / 3 {
-        whole_feature(t, k)
-    } else {
-        partial_feature(t, k)
-    }
-}
-
-fn whole_feature(t: &[u32], k: usize) -> FeatureRow
-    requires { ⌜ 3 * k + 3 ≤ length (now t) ⌝ }
-    ensures { λ r. ⌜ r ≡ featureRow (now (t .entry)) k ⌝ }
-{
-    let b = 3 * k;
-    FeatureRow {
-        id: t[b],
-        at: t[b + 1],
-        len: t[b + 2],
-    }
-}
-
-fn partial_feature(t: &[u32], k: usize) -> FeatureRow
-    ensures { λ r. ⌜ r ≡ featureRow (now (t .entry)) k ⌝ }
-{
-    let b = 3 * min_of(k, t.len() / 3 + 1);
-    FeatureRow {
-        id: number_at(t, b),
-        at: number_at(t, b + 1),
-        len: number_at(t, b + 2),
-    }
-}
-
-// The bytes of the buffer that a row names, as far as they are there.
-pub fn part_at(buffer: &[u8], at: u32, len: u32) -> &[u8]
-    ensures { λ r. ⌜ now r ≡ bytesAt (now (buffer .entry)) at len ⌝ }
-{
-    let start = min_of(at as usize, buffer.len());
-    let end = min_of(at as usize + len as usize, buffer.len());
-    &buffer[start..end]
-}
-
 // How many bytes an address with the length byte L has.
 pub fn address_size(l: u32) -> u32
     ensures { λ r. ⌜ r ≡ l - 4 ⌝ }
@@ -102,16 +65,73 @@ pub fn address_size(l: u32) -> u32
     if l < 4 { 0 } else { l - 4 }
 }
 
-// A number of a table; 0 outside.
-fn number_at(t: &[u32], i: usize) -> u32
-    ensures { λ r. ⌜ r ≡ getD (now (t .entry)) i 0 ⌝ }
+// Has each table whole rows, with numbers as they should be (question 16)?
+pub fn tables_whole(entries: &[u32], features: &[u32]) -> bool
+    ensures { λ r. ⌜ r ≡ tablesWhole (lent (now (entries .entry)) (now (features .entry)) []) ⌝ }
 {
-    if i < t.len() { t[i] } else { 0 }
+    if entries.len() % ENTRY_ROW_SIZE != 0 {
+        return false;
+    }
+    if features.len() % FEATURE_ROW_SIZE != 0 {
+        return false;
+    }
+    if !every_entry(entries) {
+        return false;
+    }
+    every_id(features)
 }
 
-// The smaller of two numbers.
-pub fn min_of(a: usize, b: usize) -> usize
-    ensures { λ r. ⌜ r ≡ min a b ⌝ }
+// Has each row of the entry table numbers as they should be?
+fn every_entry(entries: &[u32]) -> bool
+    ensures { λ r. ⌜ r ≡ every entryNumbers (rows (entryRow (now (entries .entry))) 0 (length (now (entries .entry)) / 12)) ⌝ }
 {
-    if a <= b { a } else { b }
+    let n = entries.len() / ENTRY_ROW_SIZE;
+    let mut k: usize = 0;
+    while k < n {
+        if !entry_numbers(entry_at(entries, k)) {
+            return false;
+        }
+        k += 1;
+    }
+    true
+}
+
+// Are the version numbers bytes, the port below 65,536, and the address length 0, 8 or 20?
+fn entry_numbers(e: EntryRow) -> bool
+    ensures { λ r. ⌜ r ≡ entryNumbers e ⌝ }
+{
+    if 256 <= e.major {
+        return false;
+    }
+    if 256 <= e.minor {
+        return false;
+    }
+    if 256 <= e.patch {
+        return false;
+    }
+    if PORT_COUNT <= e.port as u64 {
+        return false;
+    }
+    if e.addrlen == 0 {
+        return true;
+    }
+    if e.addrlen == IPV4_LENGTH as u32 {
+        return true;
+    }
+    e.addrlen == IPV6_LENGTH as u32
+}
+
+// Has each row of the feature table an id below 256?
+fn every_id(features: &[u32]) -> bool
+    ensures { λ r. ⌜ r ≡ every featureNumbers (rows (featureRow (now (features .entry))) 0 (length (now (features .entry)) / 3)) ⌝ }
+{
+    let n = features.len() / FEATURE_ROW_SIZE;
+    let mut k: usize = 0;
+    while k < n {
+        if 256 <= features[FEATURE_ROW_SIZE * k] {
+            return false;
+        }
+        k += 1;
+    }
+    true
 }

@@ -29,15 +29,6 @@ pub id-byte : (f : FeatureRow) → featureNumbers f ≡ true → f .id < 256
 unfolding featureNumbers
 id-byte f h = ltb-true (f .id) 256 h
 
-pub short-lengths : (buffer : List ℕ) (r : EntryRow) → shortStrings (entryOf (lent [] [] buffer) r) ≡ true
-    → (length (bytesAt buffer (r .agentat) (r .agentlen)) ≤ 255) × (length (bytesAt buffer (r .nameat) (r .namelen)) ≤ 255)
-unfolding shortStrings entryOf
-short-lengths buffer r h =
-    let a = length (bytesAt buffer (r .agentat) (r .agentlen)) in
-    let n = length (bytesAt buffer (r .nameat) (r .namelen)) in
-    let b = and-true (leb a 255) (leb n 255) h in
-    (leb-true a 255 (b .0), leb-true n 255 (b .1))
-
 -- ---- the address of a row
 
 pub address-zero : (l : ℕ) (bytes : List ℕ) (port : ℕ) → l ≡ 0 → addressBytes (addressOf l bytes port) ≡ 0 ∷ []

@@ -1,44 +1,22 @@
--- What is known of a row once its questions are answered "yes".
-use Prim.Native.Nat.{ℕ, _+_, _/_, _≤_, _<_}
+-- What is known of a row once its questions, or those over all rows, are answered "yes".
+use Prim.Native.Nat.{ℕ, _/_, _<_}
 use native.Mathlib.Omega.{arith}
-use mathlib.Core.Bool.{true}
-use mathlib.Core.List.{List, []}
-use mathlib.Core.Path.{_≡_}
+use mathlib.Core.Bool.{Bool, true}
+use mathlib.Core.List.{[], _∷_}
+use mathlib.Core.Path.{_≡_, sym, _∙_}
 use lib.Dec.{ltb}
 use lib.ListN.{length}
-use borrow.Author.Tests.{leb-true, ltb-true}
+use borrow.Author.Tests.{leb-true, ltb-true, lt-ltb}
 use Rattle.wire.specs.Bytes.{every}
-use Rattle.wire.specs.BytesLaws.{and-true}
+use Rattle.wire.specs.BytesLaws.{and-true, every-map}
 use Rattle.wire.specs.OutputLaws.{AllHold}
-use Rattle.handshake.specs.declared.EntryRow.{EntryRow}
-use Rattle.handshake.specs.Value.{shortStrings, fewFeatures, entriesAsked}
-use Rattle.handshake.specs.Tables.{Lent, lent, rows, featureRow, entryRow, entryOf, featureNumbers, tablesWhole, inside, featureInside, entryInside}
-use Rattle.handshake.specs.TablesLaws.{every-row, row-numbers, row-inside, whole-features, parts-inside, own-range}
+use Rattle.handshake.specs.Value.{EntryValue, shortStrings, utf8Strings, fewFeatures, lengthsWithin, entriesAsked}
+use Rattle.handshake.specs.Tables.{Lent, lent, featureRow, entryRow, entryRows, entryOf, entriesOf, featureNumbers, tablesWhole, entryInside}
+use Rattle.handshake.specs.TablesLaws.{every-row, row-numbers, row-inside, whole-features, own-range}
 use Rattle.handshake.specs.RowsLaws.{every-rows}
-use Rattle.handshake.specs.Writes.{rowInside, rowAsked}
+use Rattle.handshake.specs.Writes.{entryAt, rowInside, rowAsked}
 use Rattle.handshake_entry_rows.specs.ValueLaws.{own-entry, length-features}
 use Rattle.handshake_entry_write.specs.Ready.{Ready}
-
--- ---- the parts of a row
-
-module _ (l : Lent) (r : EntryRow) (parts : entryInside l r ≡ true) where
-  pub agent-part : r .agentat + r .agentlen ≤ length (l .buffer)
-  unfolding inside
-  agent-part = leb-true (r .agentat + r .agentlen) (length (l .buffer)) (parts-inside l r parts .agent)
-
-  pub name-part : r .nameat + r .namelen ≤ length (l .buffer)
-  unfolding inside
-  name-part = leb-true (r .nameat + r .namelen) (length (l .buffer)) (parts-inside l r parts .name)
-
--- the body of one of n feature rows from i on
-pub part-inside : (buffer t : List ℕ) (i n k : ℕ) → every (featureInside buffer) (rows (featureRow t) i n) ≡ true → k < n
-    → featureRow t (i + k) .at + featureRow t (i + k) .len ≤ length buffer
-unfolding featureInside inside
-part-inside buffer t i n k h l =
-    let f = featureRow t (i + k) in
-    leb-true (f .at + f .len) (length buffer) (every-row (featureInside buffer) (featureRow t) n i (i + k) h (omega arith) (omega arith))
-
--- ---- row k
 
 module _ (l : Lent) (k : ℕ) (yes : AllHold (rowAsked l k)) where
   pub row-in-table : k < length (l .entries) / 12
@@ -58,3 +36,18 @@ module _ (l : Lent) (k : ℕ) (yes : AllHold (rowAsked l k)) where
         short = rw (own-entry l r) (and-true (shortStrings (entryOf l r)) true (yes .1 .0) .0);
         few = omega (arith, few, length-features l r);
       }
+
+-- once every question over all rows is answered "yes", so are those of each row alone
+module _ (l : Lent) (k : ℕ) (h : k < length (l .entries) / 12) where
+  value-of-row : (test : EntryValue → Bool) → every test (entriesOf l) ≡ true → every test (entryAt l k ∷ []) ≡ true
+  unfolding entriesOf every
+  value-of-row test e =
+      let all = sym (every-map test (entryOf l) (entryRows l)) ∙ e in
+      rw (every-row (λ r. test (entryOf l r)) (entryRow (l .entries)) (length (l .entries) / 12) 0 k all (omega arith) (omega arith))
+
+  pub each-row-asked : every (entryInside l) (entryRows l) ≡ true → AllHold (entriesAsked (entriesOf l)) → AllHold (rowAsked l k)
+  unfolding rowInside entriesAsked
+  each-row-asked within holds = (
+    rw (lt-ltb k (length (l .entries) / 12) h) (every-row (entryInside l) (entryRow (l .entries)) (length (l .entries) / 12) 0 k within (omega arith) (omega arith)),
+    (value-of-row shortStrings (holds .0), (value-of-row utf8Strings (holds .1 .0), (value-of-row fewFeatures (holds .1 .1 .0), (value-of-row lengthsWithin (holds .1 .1 .1 .0), tt)))),
+  )

@@ -14,19 +14,20 @@ ghost use Rattle.handshake.specs.Entry.{addressOf};
 ghost use Rattle.handshake.specs.Value.{addressBytes, featureBytes, entryBytes, shortStrings};
 ghost use Rattle.handshake.specs.Tables.{lent, rows, featureRow, bytesAt, featureOf, featureNumbers, entryOf, entriesOf, entryNumbers, featureInside};
 ghost use Rattle.handshake.specs.Writes.{entryAt, entryWritten};
-ghost use Rattle.handshake_entry_length.specs.Length.{headBytes};
+ghost use Rattle.handshake_entry_ask.specs.Asked.{headBytes};
 ghost use Rattle.handshake_entry_write.specs.Ready.{Ready, EntriesReady};
-ghost use Rattle.handshake_entry_write.specs.Rows.{bodySaid, rowsWritten};
+ghost use Rattle.handshake_entry_write.specs.Rows.{rowsWritten};
+use handshake::ENTRY_ROW_SIZE;
 use handshake::EntryRow;
+use handshake::FEATURE_ROW_SIZE;
 use handshake::FeatureRow;
 use handshake_entry_ask::ask_entries;
 use handshake_entry_ask::ask_entry;
 use handshake_entry_rows::address_size;
 use handshake_entry_rows::entry_at;
 use vlq_write::write_vlq;
-use wire::MAX_BODY_SIZE;
 use wire::Written;
-use wire_output::ask_place;
+use wire_output::ask_output;
 use wire_part_write::write_part;
 
 // The entry in row k. 16 is asked of every row of both tables.
@@ -41,7 +42,7 @@ pub fn write_entry(
     ensures { λ r. ⌜ r ≡ entryWritten (lent (now (entries .entry)) (now (features .entry)) (now (buffer .entry))) k (now (out .entry)) at ⌝ }
     ensures { λ r. ⌜ now (out .exit) ≡ outputAfter r (now (out .entry)) at (entryBytes (entryAt (lent (now (entries .entry)) (now (features .entry)) (now (buffer .entry))) k)) ⌝ }
 {
-    let answer = ask_place(out.len(), at, ask_entry(entries, features, buffer, k));
+    let answer = ask_output(out.len(), at, ask_entry(entries, features, buffer, k));
     if let Written::To(_) = answer {
         put_entry(out, at, features, buffer, entry_at(entries, k));
     }
@@ -60,30 +61,12 @@ pub fn write_rows(
     ensures { λ r. ⌜ r ≡ rowsWritten (lent (now (entries .entry)) (now (features .entry)) (now (buffer .entry))) before (now (out .entry)) at ⌝ }
     ensures { λ r. ⌜ now (out .exit) ≡ outputAfter r (now (out .entry)) at (flatMap entryBytes (entriesOf (lent (now (entries .entry)) (now (features .entry)) (now (buffer .entry))))) ⌝ }
 {
-    let body = ask_body(before, ask_entries(entries, features, buffer));
-    let said = ask_place(out.len(), at, body);
-    if let Written::To(_) = said {
+    let size = ask_entries(before, entries, features, buffer);
+    let written = ask_output(out.len(), at, size);
+    if let Written::To(_) = written {
         put_rows(out, at, entries, features, buffer);
     }
-    said
-}
-
-// Adds the body's question to what is said of its end: To has how many bytes that is.
-fn ask_body(before: usize, said: Written) -> Written
-    ensures { λ r. ⌜ r ≡ bodySaid before said ⌝ }
-{
-    match said {
-        Written::To(n) => {
-            if MAX_BODY_SIZE < n {
-                return Written::Refused(7);
-            }
-            if MAX_BODY_SIZE - n < before {
-                return Written::Refused(7);
-            }
-            Written::To(n)
-        }
-        Written::Refused(m) => Written::Refused(m),
-    }
+    written
 }
 
 // Stores all entries of a table, one after the other, and gives the place after them.
@@ -92,7 +75,7 @@ fn put_rows(out: &mut [u8], at: usize, entries: &[u32], features: &[u32], buffer
     requires { ⌜ at + length (flatMap entryBytes (entriesOf (lent (now entries) (now features) (now buffer)))) ≤ length (now out) ⌝ }
     ensures { λ r. ⌜ Wrote (now (out .entry)) at (flatMap entryBytes (entriesOf (lent (now (entries .entry)) (now (features .entry)) (now (buffer .entry))))) r (now (out .exit)) ⌝ }
 {
-    let n = entries.len() / 12;
+    let n = entries.len() / ENTRY_ROW_SIZE;
     let mut o = at;
     let mut k: usize = 0;
     while k < n {
@@ -170,7 +153,7 @@ fn put_features(out: &mut [u8], at: usize, features: &[u32], buffer: &[u8], e: E
     let mut o = at;
     let mut k: usize = 0;
     while k < count {
-        let b = 3 * (first + k);
+        let b = FEATURE_ROW_SIZE * (first + k);
         let f = FeatureRow {
             id: features[b],
             at: features[b + 1],

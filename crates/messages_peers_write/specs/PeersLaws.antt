@@ -1,19 +1,18 @@
 -- Laws of the writer of Peers: what is said by sizes is what `messageWritten` says, and what is known once it accepted.
-use Prim.Native.Nat.{ℕ, _+_, _-_, _/_, _≤_, _<_, min}
+use Prim.Native.Nat.{ℕ, _+_, _-_, _/_, _≤_}
 use native.Mathlib.Omega.{arith}
-use mathlib.Core.Bool.{Bool, true, false, true≢false}
+use mathlib.Core.Bool.{Bool, true, false, true≢false, _&&_}
 use mathlib.Core.List.{List, [], _∷_, _++_, flatMap}
-use mathlib.Core.Logic.{⊎-elim}
 use mathlib.Core.Path.{_≡_, refl, sym, ap, _∙_}
 use lib.Dec.{leb}
 use lib.ListN.{length, take, drop, length-append, length-map}
-use borrow.Author.Tests.{le-leb, lt-leb, leb-true}
+use borrow.Author.Tests.{le-leb, lt-leb, leb-true, leb-false}
 use Rattle.wire.specs.Bytes.{every}
 use Rattle.wire.specs.BytesLaws.{and-true}
-use Rattle.wire.specs.Numbers.{lt-or-ge}
 use Rattle.wire.specs.declared.Written.{Written}
 use Rattle.wire.specs.declared.Written.the-variants.{To}
-use Rattle.wire.specs.Output.{put, ask, asked, written, outputAfter, Wrote}
+use Rattle.wire.specs.declared.Size.the-variants.{Refused as Unsized}
+use Rattle.wire.specs.Output.{put, ask, asked, sized, written, outputAfter, Wrote}
 use Rattle.wire.specs.OutputLaws.{Accepted, length-put, wrote-checked, written-accepted}
 use Rattle.wire.specs.StandingLaws.{after-put, put-behind}
 use Rattle.vlq.specs.Vlq.{limit, vlqBytes}
@@ -25,14 +24,14 @@ use Rattle.frame_write.specs.FrameWriteLaws.{length-frame, frameLength-body, cl
 use Rattle.handshake.specs.Value.{entryBytes, shortStrings, utf8Strings, fewFeatures, lengthsWithin, entriesAsked}
 use Rattle.handshake.specs.Tables.{Lent, entryRow, entryRows, entryOf, entriesOf, tablesWhole, entryInside}
 use Rattle.handshake.specs.RowsLaws.{length-rows}
-use Rattle.wire_output.specs.Asked.{placed}
+use Rattle.wire_output.specs.Asked.{outputAsked}
 use Rattle.wire_output.specs.CheckedLaws.{kept-unaccepted}
-use Rattle.handshake_entry_ask.specs.Asked.{entriesSaid}
-use Rattle.handshake_entry_write.specs.Rows.{rowsAsked, rowsWritten}
+use Rattle.handshake_entry_ask.specs.Asked.{rowsAsked, entriesSize}
+use Rattle.handshake_entry_write.specs.Rows.{rowsWritten}
 use Rattle.messages.specs.Value as Values
 use Rattle.messages.specs.Value.{codeOf, bodyBytes, payloadsWithin, countWithin, codeFree, messageAsked}
 use Rattle.messages.specs.Writes.{writePeers, valueOf, messageWhole, messageInside, messageWritten}
-use Rattle.messages_peers_write.specs.Asked.{peersBytes, countSaid, peersSaid, peersStart}
+use Rattle.messages_peers_write.specs.Asked.{peersBytes, peersRefusal, peersStart}
 
 -- ---- lengths
 
@@ -47,57 +46,6 @@ peers-parts l = rw (length-entries l)
 
 pub length-peers : (l : Lent) → length (peersBytes l) ≡ length (vlqBytes (length (l .entries) / 12)) + length (flatMap entryBytes (entriesOf l))
 length-peers l = ap length (peers-parts l) ∙ length-append (vlqBytes (length (l .entries) / 12)) (flatMap entryBytes (entriesOf l))
-
--- ---- what is said
-
--- the questions after those of the entries
-abbrev rest : ℕ → ℕ → ℕ → ℕ → ℕ → Written
-rest cap count len at n =
-    asked
-    (ask 10 (leb count cap)
-    ∷ ask 7 (leb (length (vlqBytes count) + n) limit)
-    ∷ ask 14 (leb (at + frameLength (length (vlqBytes count) + n)) len)
-    ∷ [])
-    (To (at + frameLength (length (vlqBytes count) + n)))
-
--- 7 is answered "no" of limit + 1 bytes as of any more
-rest-most : (cap count len at n : ℕ) → rest cap count len at (min n (limit + 1)) ≡ rest cap count len at n
-unfolding asked
-rest-most cap count len at n =
-    ⊎-elim
-    (λ (h : n < limit + 1). let e : min n (limit + 1) ≡ n = omega arith in rw e)
-    (λ (h : limit + 1 ≤ n).
-    let e : min n (limit + 1) ≡ limit + 1 = omega arith in
-    let v = vlq-pos count in
-    rw (e, lt-leb (length (vlqBytes count) + (limit + 1)) limit (omega (arith, v)), lt-leb (length (vlqBytes count) + n) limit (omega (arith, v))))
-    (lt-or-ge n (limit + 1))
-
-in-order : (cap count len at n : ℕ) (a b c d e f : Bool)
-    → peersSaid cap count len at (asked (ask 16 a ∷ ask 12 b ∷ ask 13 c ∷ ask 4 d ∷ ask 15 e ∷ ask 3 f ∷ []) (To n))
-    ≡ asked (ask 16 a ∷ ask 12 (leb at len) ∷ ask 12 b ∷ ask 13 c ∷ ask 4 d ∷ ask 15 e ∷ ask 3 f ∷ []) (rest cap count len at n)
-unfolding peersSaid countSaid placed asked
-in-order cap count len at n false b c d e f = refl
-in-order cap count len at n true false c d e f = refl
-in-order cap count len at n true true false d e f = refl
-in-order cap count len at n true true true false e f = refl
-in-order cap count len at n true true true true false f = refl
-in-order cap count len at n true true true true true false = refl
-in-order cap count len at n true true true true true true = refl
-
-asked-most : (cap count len at n : ℕ) (a b c d e f : Bool)
-    → peersSaid cap count len at (asked (ask 16 a ∷ ask 12 b ∷ ask 13 c ∷ ask 4 d ∷ ask 15 e ∷ ask 3 f ∷ []) (To (min n (limit + 1))))
-    ≡ asked (ask 16 a ∷ ask 12 (leb at len) ∷ ask 12 b ∷ ask 13 c ∷ ask 4 d ∷ ask 15 e ∷ ask 3 f ∷ []) (rest cap count len at n)
-asked-most cap count len at n a b c d e f =
-    in-order cap count len at (min n (limit + 1)) a b c d e f
-    ∙ ap (asked (ask 16 a ∷ ask 12 (leb at len) ∷ ask 12 b ∷ ask 13 c ∷ ask 4 d ∷ ask 15 e ∷ ask 3 f ∷ [])) (rest-most cap count len at n)
-
-pub said-peers : (network : Network) (cap : ℕ) (l : Lent) (out : List ℕ) (at : ℕ)
-    → peersSaid cap (length (l .entries) / 12) (length out) at (entriesSaid l) ≡ messageWritten network cap (writePeers l) out at
-unfolding entriesSaid entriesAsked messageWritten written asked messageWhole messageInside messageAsked valueOf Values.entriesOf payloadsWithin countWithin codeFree codeOf
-said-peers network cap l out at =
-    asked-most cap (length (l .entries) / 12) (length out) at (length (flatMap entryBytes (entriesOf l))) (tablesWhole l) (every (entryInside l) (entryRows l))
-    (every shortStrings (entriesOf l)) (every utf8Strings (entriesOf l)) (every fewFeatures (entriesOf l)) (every lengthsWithin (entriesOf l))
-    ∙ rw (length-frame network 2 (peersBytes l), length-peers l, length-entries l)
 
 -- ---- where the frame starts
 
@@ -127,7 +75,45 @@ rows-peers network cap l out at start =
       end,
     )
 
--- it does not: the writer refuses, and the output is as it was
+-- it does not: what refuses, in the order of the questions, which have no room at the end
+in-order : (len at n : ℕ) (a b c d e f within g room : Bool) (w : Written) → (within ≡ true → room ≡ false)
+    → outputAsked len at
+    (Unsized (peersRefusal within (sized (ask 16 a ∷ ask 12 b ∷ ask 13 c ∷ ask 4 d ∷ ask 15 e ∷ ask 3 f ∷ ask 7 g ∷ []) n)))
+    ≡ asked
+    (ask 16 a ∷ ask 12 (leb at len) ∷ ask 12 b ∷ ask 13 c ∷ ask 4 d ∷ ask 15 e ∷ ask 3 f ∷ ask 10 within ∷ ask 7 g ∷ ask 14 room ∷ []) w
+unfolding outputAsked peersRefusal sized asked
+in-order len at n false b c d e f within g room w h = refl
+in-order len at n true false c d e f within g room w h = refl
+in-order len at n true true false d e f within g room w h = refl
+in-order len at n true true true false e f within g room w h = refl
+in-order len at n true true true true false f within g room w h = refl
+in-order len at n true true true true true false within g room w h = refl
+in-order len at n true true true true true true false true room w h = refl
+in-order len at n true true true true true true false false room w h = refl
+in-order len at n true true true true true true true true room w h = rw (h refl)
+in-order len at n true true true true true true true false room w h = refl
+
+other-no : (t u : Bool) → t && u ≡ false → u ≡ true → t ≡ false
+other-no true u e h = sym h ∙ e
+other-no false u e h = refl
+
+pub refused-peers : (network : Network) (cap : ℕ) (l : Lent) (out : List ℕ) (at : ℕ) → peersStart cap (length (l .entries) / 12) (length out) at ≡ false
+    → let count = length (l .entries) / 12 in
+    outputAsked (length out) at (Unsized (peersRefusal (leb count cap) (entriesSize l (length (vlqBytes count))))) ≡ messageWritten network cap (writePeers l) out at
+unfolding peersStart entriesSize entriesAsked messageWritten written asked messageWhole messageInside messageAsked valueOf Values.entriesOf payloadsWithin countWithin codeFree codeOf
+refused-peers network cap l out at start =
+    let count = length (l .entries) / 12 in
+    let v = length (vlqBytes count) in
+    let n = length (flatMap entryBytes (entriesOf l)) in
+    in-order (length out) at n (tablesWhole l) (every (entryInside l) (entryRows l)) (every shortStrings (entriesOf l)) (every utf8Strings (entriesOf l))
+    (every fewFeatures (entriesOf l)) (every lengthsWithin (entriesOf l)) (leb count cap) (leb (v + n) limit) (leb (at + frameLength (v + n)) (length out))
+    (To (at + frameLength (v + n)))
+    (λ (within : leb count cap ≡ true).
+    let none = leb-false (at + (13 + v)) (length out) (other-no _ _ start within) in
+    lt-leb (at + frameLength (v + n)) (length out) (omega (arith, none, frameLength-body (v + n) (omega (arith, vlq-pos count)))))
+    ∙ rw (length-frame network 2 (peersBytes l), length-peers l, length-entries l)
+
+-- the writer refuses, and the output is as it was
 pub not-started : (network : Network) (cap : ℕ) (l : Lent) (out : List ℕ) (at : ℕ) (bs : List ℕ) (r : Written) → r ≡ messageWritten network cap (writePeers l) out at
     → peersStart cap (length (l .entries) / 12) (length out) at ≡ false → out ≡ outputAfter r out at bs
 unfolding peersStart messageWritten messageWhole messageInside messageAsked valueOf codeOf Values.entriesOf entriesAsked countWithin

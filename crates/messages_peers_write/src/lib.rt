@@ -3,7 +3,7 @@
 ghost use mathlib.Core.Path.{_≡_};
 ghost use Prim.Native.Nat.{_+_, _/_, _≤_};
 ghost use mathlib.Core.Bool.{true};
-ghost use lib.Dec.{ltb};
+ghost use lib.Dec.{leb, ltb};
 ghost use lib.ListN.{length};
 ghost use Rattle.wire.specs.Bytes.{every};
 ghost use Rattle.wire.specs.Output.{outputAfter};
@@ -12,12 +12,16 @@ ghost use Rattle.frame.specs.Frame.{frameBytes};
 ghost use Rattle.handshake.specs.Tables.{lent};
 ghost use Rattle.handshake_entry_write.specs.Rows.{rowsWritten};
 ghost use Rattle.messages.specs.Writes.{writePeers, valueOf, messageBytes, messageWritten};
-ghost use Rattle.messages_peers_write.specs.Asked.{peersBytes, countSaid, peersSaid, peersStart};
+ghost use Rattle.messages_peers_write.specs.Asked.{peersBytes, peersRefusal, peersStart};
 use frame::HEADER_SIZE;
+use handshake::ENTRY_ROW_SIZE;
+use handshake_entry_ask::ask_entries;
 use messages::PEERS;
 use types::Network;
-use wire::MAX_BODY_SIZE;
+use vlq_write::vlq_len;
+use wire::Size;
 use wire::Written;
+use wire_output::ask_output;
 
 // The entries of a table, at most cap of them. The last clause is what the type of buffer says; written sessions rest on it.
 pub fn write_peers(
@@ -33,30 +37,30 @@ pub fn write_peers(
     ensures { λ r. ⌜ now (out .exit) ≡ outputAfter r (now (out .entry)) at (messageBytes network (valueOf (writePeers (lent (now (entries .entry)) (now (features .entry)) (now (buffer .entry)))))) ⌝ }
     ensures { λ _. ⌜ every (λ b. ltb b 256) (now (buffer .entry)) ≡ true ⌝ }
 {
-    let count = entries.len() / 12;
-    if starts(out.len(), at, cap, count) {
-        return write_frame(out, at, network, entries, features, buffer);
+    let count = entries.len() / ENTRY_ROW_SIZE;
+    if has_start(out.len(), at, cap, count) {
+        return write_peers_frame(out, at, network, entries, features, buffer);
     }
-    // The frame has no start, so one of these is answered "no".
-    let said = handshake_entry_ask::ask_entries(entries, features, buffer);
-    ask_peers(out.len(), at, cap, count, said)
+    let size = ask_entries(vlq_len(count as u64), entries, features, buffer);
+    let refusal = first_refusal(cap, count, size);
+    ask_output(out.len(), at, Size::Refused(refusal))
 }
 
 // Is the count within the cap, and has the output room for all that a frame has before its entries?
-fn starts(len: usize, at: usize, cap: usize, count: usize) -> bool
+fn has_start(len: usize, at: usize, cap: usize, count: usize) -> bool
     ensures { λ r. ⌜ r ≡ peersStart cap count len at ⌝ }
 {
     if len < at {
         return false;
     }
-    if len - at < HEADER_SIZE + vlq_write::vlq_len(count as u64) {
+    if len - at < HEADER_SIZE + vlq_len(count as u64) {
         return false;
     }
     count <= cap
 }
 
 // Writes the entries where they stand in the frame, and once they are accepted all that is before them.
-fn write_frame(
+fn write_peers_frame(
     out: &mut [u8],
     at: usize,
     network: Network,
@@ -68,8 +72,8 @@ fn write_frame(
     ensures { λ r. ⌜ r ≡ rowsWritten (lent (now (entries .entry)) (now (features .entry)) (now (buffer .entry))) (length (vlqBytes (length (now (entries .entry)) / 12))) (now (out .entry)) (at + 13 + length (vlqBytes (length (now (entries .entry)) / 12))) ⌝ }
     ensures { λ r. ⌜ now (out .exit) ≡ outputAfter r (now (out .entry)) at (frameBytes network 2 (peersBytes (lent (now (entries .entry)) (now (features .entry)) (now (buffer .entry))))) ⌝ }
 {
-    let count = (entries.len() / 12) as u64;
-    let before = vlq_write::vlq_len(count);
+    let count = (entries.len() / ENTRY_ROW_SIZE) as u64;
+    let before = vlq_len(count);
     let start = at + HEADER_SIZE;
     let answer = handshake_entry_write::write_rows(
         out,
@@ -86,28 +90,25 @@ fn write_frame(
     answer
 }
 
-// Adds the questions of the place, the count, the body and the room to what is said of count entries: To has how many bytes they are written as.
-fn ask_peers(len: usize, at: usize, cap: usize, count: usize, said: Written) -> Written
-    ensures { λ r. ⌜ r ≡ peersSaid cap count len at said ⌝ }
+// Of a frame without a start, given what is said of its entries: the count is asked before the body, the room last.
+fn first_refusal(cap: usize, count: usize, size: Size) -> u8
+    ensures { λ r. ⌜ r ≡ peersRefusal (leb count cap) size ⌝ }
 {
-    match said {
-        Written::To(n) => ask_count(len, at, cap, count, n),
-        Written::Refused(m) => wire_output::ask_place(len, at, Written::Refused(m)),
+    match size {
+        Size::Bytes(_) => {
+            if cap < count {
+                return 10;
+            }
+            14
+        }
+        Size::Refused(m) => {
+            if m != 7 {
+                return m;
+            }
+            if count <= cap {
+                return 7;
+            }
+            10
+        }
     }
-}
-
-// What is said of count entries that are written as n bytes.
-fn ask_count(len: usize, at: usize, cap: usize, count: usize, n: usize) -> Written
-    ensures { λ r. ⌜ r ≡ countSaid cap count len at n ⌝ }
-{
-    if len < at {
-        return Written::Refused(12);
-    }
-    if cap < count {
-        return Written::Refused(10);
-    }
-    if MAX_BODY_SIZE < n {
-        return Written::Refused(7);
-    }
-    frame_write::ask_frame(len, at, vlq_write::vlq_len(count as u64) + n)
 }

@@ -10,6 +10,8 @@ pub mod StableLaws
 pub mod Output
 pub mod OutputLaws
 pub mod StandingLaws
+pub mod Earliest
+pub mod EarliestLaws
 pub mod ReadsBack
 pub mod ReadsBackLaws
 pub mod ListLaws

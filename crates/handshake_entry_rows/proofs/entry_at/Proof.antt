@@ -11,7 +11,7 @@ use Rattle.handshake_entry_rows.proofs.entry_at.Tie as tie
 returns : tie.Need-returns
 returns c =
     let a = c .before .before .before .args in
-    c .whole-entry .ensures ∙ sym (row-there (now (a .t)) (a .k) (c .before .if1 .taken))
+    c .entry-row .ensures ∙ sym (row-there (now (a .t)) (a .k) (c .before .if1 .taken))
 
 returns-2 : tie.Need-returns-2
 unfolding rowOrZeros

@@ -7,9 +7,8 @@ use lib.ListN.{length-set}
 use Rattle.wire.specs.OutputLaws.{wrote-then, wrote-byte, wrote-length}
 use Rattle.handshake.specs.Tables.{lent, inside, entryInside}
 use Rattle.handshake.specs.TablesLaws.{parts-inside, own-range}
-use Rattle.handshake_entry_length.specs.LengthLaws.{entry-parts, length-entry}
-use Rattle.handshake_entry_rows.specs.ValueLaws.{own-short}
-use Rattle.handshake_entry_write.specs.ReadyLaws.{agent-part, name-part}
+use Rattle.handshake_entry_ask.specs.LengthLaws.{entry-parts, length-entry}
+use Rattle.handshake_entry_rows.specs.ValueLaws.{own-short, agent-part, name-part}
 use Rattle.handshake_entry_write.proofs.put_entry.Statement.{statement}
 use Rattle.handshake_entry_write.proofs.put_entry.Tie as tie
 

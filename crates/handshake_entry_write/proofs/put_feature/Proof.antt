@@ -7,7 +7,7 @@ use borrow.Author.Needs.{needs}
 use Rattle.wire.specs.OutputLaws.{wrote-then, wrote-byte, wrote-length}
 use Rattle.handshake.specs.Value.{featureBytes}
 use Rattle.handshake.specs.Tables.{featureOf}
-use Rattle.handshake_entry_length.specs.LengthLaws.{length-feature}
+use Rattle.handshake_entry_ask.specs.LengthLaws.{length-feature}
 use Rattle.handshake_entry_write.specs.NumbersLaws.{id-byte}
 use Rattle.handshake_entry_write.proofs.put_feature.Statement.{statement}
 use Rattle.handshake_entry_write.proofs.put_feature.Tie as tie

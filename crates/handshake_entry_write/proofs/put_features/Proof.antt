@@ -6,7 +6,7 @@ use Rattle.handshake.specs.Value.{featureBytes}
 use Rattle.handshake.specs.Tables.{featureRow, featureOf, featureNumbers}
 use Rattle.handshake.specs.RowsLaws.{rows-from}
 use Rattle.handshake.specs.PuttingLaws.{Putting, putting-start, putting-passed, putting-room, putting-turn, putting-end}
-use Rattle.handshake_entry_write.specs.ReadyLaws.{part-inside}
+use Rattle.handshake_entry_rows.specs.ValueLaws.{part-inside}
 use Rattle.handshake_entry_write.proofs.put_features.Statement.{statement}
 use Rattle.handshake_entry_write.proofs.put_features.Tie as tie
 

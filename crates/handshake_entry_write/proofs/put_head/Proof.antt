@@ -4,9 +4,9 @@ use mathlib.Core.Path.{_∙_}
 use denote.Ref.{now}
 use borrow.Author.Needs.{needs}
 use Rattle.wire.specs.OutputLaws.{wrote-then, wrote-length}
-use Rattle.handshake_entry_length.specs.Length.{headBytes}
-use Rattle.handshake_entry_length.specs.LengthLaws.{length-head}
-use Rattle.handshake_entry_write.specs.NumbersLaws.{short-lengths}
+use Rattle.handshake_entry_ask.specs.Asked.{headBytes}
+use Rattle.handshake_entry_ask.specs.LengthLaws.{length-head}
+use Rattle.handshake_entry_ask.specs.RowLaws.{short-lengths}
 use Rattle.handshake_entry_write.proofs.put_head.Statement.{statement}
 use Rattle.handshake_entry_write.proofs.put_head.Tie as tie
 

@@ -14,8 +14,8 @@ put-entry-requires c κs =
     let d = c .before .before .before .before in
     let a = d .before .before .before .before .before .before .args in
     let l = lent (now (a .entries)) (now (a .features)) (now (a .buffer)) in
-    let yes = entry-accepted l (a .k) (now (a .out)) (a .at) (d .before .ask-entry .ensures) (d .ask-place .ensures) (c .before .before .enum-told .given .1) in
-    let lt = entry-in-table l (a .k) (now (a .out)) (a .at) (d .before .ask-entry .ensures) (d .ask-place .ensures) (c .before .before .enum-told .given .1) in
+    let yes = entry-accepted l (a .k) (now (a .out)) (a .at) (d .before .ask-entry .ensures) (d .ask-output .ensures) (c .before .before .enum-told .given .1) in
+    let lt = entry-in-table l (a .k) (now (a .out)) (a .at) (d .before .ask-entry .ensures) (d .ask-output .ensures) (c .before .before .enum-told .given .1) in
     let row = c .entry-at .ensures ∙ row-there (l .entries) (a .k) lt in
     rw row (yes .0, rw (own-entry l (entryRow (l .entries) (a .k))) (yes .1))
 
@@ -27,9 +27,9 @@ returns c =
     let d = c .before .before .before .before .before .before .before in
     let a = d .before .before .before .before .before .before .args in
     let l = lent (now (a .entries)) (now (a .features)) (now (a .buffer)) in
-    let lt = entry-in-table l (a .k) (now (a .out)) (a .at) (d .before .ask-entry .ensures) (d .ask-place .ensures) (c .before .before .before .before .before .enum-told .given .1) in
+    let lt = entry-in-table l (a .k) (now (a .out)) (a .at) (d .before .ask-entry .ensures) (d .ask-output .ensures) (c .before .before .before .before .before .enum-told .given .1) in
     let row = c .before .before .before .entry-at .ensures ∙ row-there (l .entries) (a .k) lt in
-    entry-stored l (a .k) (now (a .out)) (a .at) (d .before .ask-entry .ensures) (d .ask-place .ensures) (c .before .before .before .before .before .enum-told .given .1)
+    entry-stored l (a .k) (now (a .out)) (a .at) (d .before .ask-entry .ensures) (d .ask-output .ensures) (c .before .before .before .before .before .enum-told .given .1)
     (rw (row, own-entry l (entryRow (l .entries) (a .k))) at (c .before .before .put-entry .ensures))
 
 returns-2 : tie.Need-returns-2
@@ -37,7 +37,7 @@ returns-2 c =
     let d = c .before .before in
     let a = d .before .before .before .before .before .before .args in
     let l = lent (now (a .entries)) (now (a .features)) (now (a .buffer)) in
-    entry-kept l (a .k) (now (a .out)) (a .at) (d .before .ask-entry .ensures) (d .ask-place .ensures) (c .enum-told2 .given .1)
+    entry-kept l (a .k) (now (a .out)) (a .at) (d .before .ask-entry .ensures) (d .ask-output .ensures) (c .enum-told2 .given .1)
 
 pub write-entry-spec : {M : Type 1} → statement M
 write-entry-spec =

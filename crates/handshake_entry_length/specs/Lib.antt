@@ -1,3 +1,0 @@
-pub mod Length
-pub mod LengthLaws
-pub mod FitsLaws
