@@ -47,7 +47,7 @@ asLength bytes answer = case (Answer ℕ) (vlqLength bytes 0) answer
 abbrev nineFF : ℕ → List ℕ
 nineFF b = 0xff ∷ 0xff ∷ 0xff ∷ 0xff ∷ 0xff ∷ 0xff ∷ 0xff ∷ 0xff ∷ 0xff ∷ b ∷ []
 
--- zigzag, over all integers; `one-to-one` (zigzag) has it at any width, with 32 and 64 bits as uses
+-- zigzag, over all integers; `one-to-one` (vlq_zigzag) has it at any width, with 32 and 64 bits as uses
 abbrev encoded : ℤ → ℕ → Case
 encoded n m = case ℕ (zigzagEncode n) m
 

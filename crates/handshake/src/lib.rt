@@ -1,5 +1,5 @@
-// Entries and handshakes: their definitions and laws, in specs/. Readers stand in handshake_address_read, handshake_read and handshake_verdict, writers in
-// handshake_entry_write, handshake_write and handshake_build.
+// Entries and handshakes: their definitions and laws, in specs/. Readers stand in handshake_address_read, handshake_read and
+// handshake_verdict, writers in handshake_entry_write, handshake_write and handshake_build.
 
 // Ids of features.
 pub const FEATURE_MODE: u8 = 16;

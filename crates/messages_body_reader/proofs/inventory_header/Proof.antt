@@ -1,6 +1,6 @@
--- `messages_body_reader::inventory_header` meets its contract: a walk of its MIR, by hand. `new` makes a reader of the body in a local, which is lent to `read_byte` and then to `read_vlq_length`
--- (`ReadCall`), and `header_of` puts the two answers together. All that the proof knows of the four is that they meet their contracts. That a reader which moves as it reads gives the header is `header-reads`.
--- Assumes nothing.
+-- `messages_body_reader::inventory_header` meets its contract: a walk of its MIR, by hand. `new` makes a reader of the body in a local, which is
+-- lent to `read_byte` and then to `read_vlq_length` (`ReadCall`), and `header_of` puts the two answers together. All that the proof knows of the
+-- four is that they meet their contracts. That a reader which moves as it reads gives the header is `header-reads`. Assumes nothing.
 use mathlib.Core.Path.{_≡_, refl, ap, _∙_}
 use Prim.Native.Nat.{ℕ}
 use mathlib.Core.List.{List, [], _∷_}

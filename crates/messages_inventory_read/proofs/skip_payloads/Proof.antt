@@ -1,4 +1,5 @@
--- `messages_inventory_read::skip_payloads` meets its contract. The loop's invariant and what follows from it stand in `LoopLaws` of wire and `PayloadsLoop`.
+-- `messages_inventory_read::skip_payloads` meets its contract. The loop's invariant and what follows from it stand in `LoopLaws` of wire and
+-- `PayloadsLoop`.
 use Prim.Native.Nat.{ℕ, _-_}
 use mathlib.Core.Path.{sym, ap, _∙_}
 use native.Mathlib.Omega.{arith}

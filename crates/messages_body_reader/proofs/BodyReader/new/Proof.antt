@@ -1,5 +1,5 @@
--- `messages_body_reader::BodyReader::new` meets its contract: a walk of its MIR, by hand. A reader is made of the slice and the place passed, in the result's local.
--- A `&[u8]` is Copy, so what it owns is had twice: once for body at exit, and once inside the result, beside the facts of at.
+-- `messages_body_reader::BodyReader::new` meets its contract: a walk of its MIR, by hand. A reader is made of the slice and the place passed, in the
+-- result's local. A `&[u8]` is Copy, so what it owns is had twice: once for body at exit, and once inside the result, beside the facts of at.
 -- Assumes nothing.
 use mathlib.Core.Path.{refl}
 use Prim.Native.Nat.{ℕ}
