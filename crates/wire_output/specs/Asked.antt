@@ -14,11 +14,6 @@ use Rattle.wire.specs.declared.Size.the-variants.{Refused as Unsized}
 abbrev pub writtenFor : List Question → List Question → ℕ → ℕ → ℕ → Written
 writtenFor before after len at n = asked (before ++ (ask 12 (leb at len) ∷ (after ++ (ask 14 (leb (at + n) len) ∷ [])))) (To (at + n))
 
--- what is said of a value, with the questions of the place (after 16) and of the room (last), for an output of len bytes
-unfoldable pub placed : ℕ → ℕ → Written → Written
-placed len at (To n) = cond (leb at len) (cond (leb (at + n) len) (To (at + n)) (Refused 14)) (Refused 12)
-placed len at (Refused m) = cond (eqb m 16) (Refused 16) (cond (leb at len) (Refused m) (Refused 12))
-
 -- what a writer says of an output of len bytes, once the size is known: the question of the place comes after 16, that of the room last
 unfoldable pub outputAsked : ℕ → ℕ → Size → Written
 outputAsked len at (Bytes n) = writtenFor [] [] len at n

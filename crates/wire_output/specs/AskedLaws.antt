@@ -4,14 +4,12 @@ use mathlib.Core.Bool.{Bool, true, false, cond}
 use mathlib.Core.List.{List, [], _∷_, _++_}
 use mathlib.Core.Path.{_≡_, refl}
 use lib.Dec.{eqb, leb}
-use Rattle.wire.specs.Output.{Question, ask, asked}
+use Rattle.wire.specs.Output.{Question, ask, asked, sized}
 use Rattle.wire.specs.declared.Written.{Written}
 use Rattle.wire.specs.declared.Written.the-variants.{To, Refused}
-use Rattle.wire.specs.Output.{sized}
 use Rattle.wire.specs.declared.Size.{Size}
-use Rattle.wire.specs.declared.Size.the-variants.{Bytes}
 use Rattle.wire.specs.declared.Size.the-variants.{Refused as Unsized}
-use Rattle.wire_output.specs.Asked.{writtenFor, placed, outputAsked}
+use Rattle.wire_output.specs.Asked.{writtenFor, outputAsked}
 
 -- no question has the number 16
 unfoldable pub Without16 : List Question → Type 0
@@ -19,26 +17,6 @@ Without16 [] = Unit {0}
 Without16 (q ∷ qs) = (eqb (q .number) 16 ≡ false) × Without16 qs
 
 module _ (len at n : ℕ) where
-  pub placed-room : placed len at (To n) ≡ writtenFor [] [] len at n
-  unfolding placed asked
-  placed-room = refl
-
-  placed-rest : (qs : List Question) → Without16 qs → placed len at (asked qs (To n)) ≡ writtenFor [] qs len at n
-  unfolding Without16 placed asked
-  placed-rest [] h = refl
-  placed-rest (q ∷ qs) h = go (q .holds) (asked qs (To n)) (asked (qs ++ (ask 14 (leb (at + n) len) ∷ [])) (To (at + n))) (placed-rest qs (h .1))
-    where
-      go : (t : Bool) (w rest : Written) → placed len at w ≡ cond (leb at len) rest (Refused 12)
-          → placed len at (cond t w (Refused (q .number))) ≡ cond (leb at len) (cond t rest (Refused (q .number))) (Refused 12)
-      go true w rest e = e
-      go false w rest e = rw (h .0)
-
-  pub placed-asked : (whole : Bool) (qs : List Question) → Without16 qs
-      → placed len at (asked (ask 16 whole ∷ qs) (To n)) ≡ writtenFor (ask 16 whole ∷ []) qs len at n
-  unfolding asked placed
-  placed-asked true qs h = placed-rest qs h
-  placed-asked false qs h = refl
-
   -- with the output's questions, those of a value are the writer's: where 16 is not asked
   pub output-rest : (qs : List Question) → Without16 qs → outputAsked len at (sized qs n) ≡ writtenFor [] qs len at n
   unfolding Without16 outputAsked sized asked

@@ -3,7 +3,7 @@ ghost use mathlib.Core.Path.{_≡_};
 ghost use mathlib.Core.List.{[]};
 ghost use Prim.Native.Nat.{_+_};
 ghost use lib.Dec.{leb};
-ghost use Rattle.wire_output.specs.Asked.{writtenFor, placed, outputAsked};
+ghost use Rattle.wire_output.specs.Asked.{writtenFor, outputAsked};
 use wire::Size;
 use wire::Written;
 
@@ -27,24 +27,6 @@ pub fn ask_room(len: usize, at: usize, n: usize) -> Written
         Written::To(at + n)
     } else {
         Written::Refused(14)
-    }
-}
-
-// Adds the place's and the room's question to what is said of a value: To has how many bytes it is written as.
-pub fn ask_place(len: usize, at: usize, said: Written) -> Written
-    ensures { λ r. ⌜ r ≡ placed len at said ⌝ }
-{
-    match said {
-        Written::To(n) => ask_room(len, at, n),
-        Written::Refused(m) => {
-            if m == 16 {
-                return Written::Refused(16);
-            }
-            if len < at {
-                return Written::Refused(12);
-            }
-            Written::Refused(m)
-        }
     }
 }
 
