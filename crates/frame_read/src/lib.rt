@@ -10,7 +10,7 @@ use frame::MIN_HEADER_SIZE;
 use types::Network;
 use types::StreamPlace;
 use wire::MAX_BODY_SIZE;
-use wire_numbers::big_endian_4_at;
+use wire_numbers::big_endian_4;
 
 const CHECK_SIZE: usize = 4;
 
@@ -52,7 +52,7 @@ pub fn decode(s: &[u8], network: Network, at: StreamPlace) -> FrameRead
     if !wire::stands_at(s, start, magic) {
         return FrameRead::Refused(6);
     }
-    let n = big_endian_4_at(s, start + 5) as usize;
+    let n = big_endian_4(&s[start + 5..start + MIN_HEADER_SIZE]) as usize;
     if MAX_BODY_SIZE < n {
         return FrameRead::Refused(7);
     }

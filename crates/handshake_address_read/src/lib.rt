@@ -13,8 +13,8 @@ use vlq::ByteRead;
 use vlq::Cursor;
 use vlq::PartRead;
 use vlq::VlqRead;
-use wire_numbers::big_endian_4_at;
-use wire_numbers::big_endian_8_at;
+use wire_numbers::big_endian_4;
+use wire_numbers::big_endian_8;
 
 pub enum AddressRead {
     Value(Address, Cursor),
@@ -69,10 +69,12 @@ fn address_of(s: &[u8], l: u8, at: usize, port: u16) -> Address
     ensures { λ r. ⌜ r ≡ addressOf l (take (l - 4) (drop at (now (s .entry)))) port ⌝ }
 {
     if l == IPV4_LENGTH {
-        return Address::V4(big_endian_4_at(s, at), port);
+        return Address::V4(big_endian_4(&s[at..at + 4]), port);
     }
     if l == IPV6_LENGTH {
-        return Address::V6(big_endian_8_at(s, at), big_endian_8_at(s, at + 8), port);
+        let high = big_endian_8(&s[at..at + 8]);
+        let low = big_endian_8(&s[at + 8..at + 16]);
+        return Address::V6(high, low, port);
     }
     Address::None
 }

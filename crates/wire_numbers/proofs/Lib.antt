@@ -1,2 +1,1 @@
-pub mod NumberLoop
-pub mod WidthLaws
+pub mod NumberLaws

@@ -1,28 +1,29 @@
-// Numbers of 2, 4 and 8 bytes, the highest byte first: read from lent bytes at a place, and given as bytes by value.
+// Numbers of 2, 4 and 8 bytes, the highest byte first: read from lent bytes, and given as bytes by value.
+// Lend the very bytes, as `&s[at..at + 4]`: their count is then known where this is compiled, and nothing is tested.
 ghost use mathlib.Core.Path.{_≡_};
-ghost use Prim.Native.Nat.{_+_, _^_, _≤_, _<_};
-ghost use lib.ListN.{length, take, drop};
+ghost use Prim.Native.Nat.{_^_, _≤_, _<_};
+ghost use lib.ListN.{take};
 ghost use Rattle.wire.specs.Bytes.{bigEndian, bigEndianBytes};
 
-// The number of the two bytes at a place. Where fewer are there, it is that of those.
-pub fn big_endian_2_at(s: &[u8], at: usize) -> u16
-    ensures { λ r. ⌜ r ≡ bigEndian (take 2 (drop at (now (s .entry)))) ⌝ }
+// The number of the first two bytes. Where there are fewer, it is that of those.
+pub fn big_endian_2(s: &[u8]) -> u16
+    ensures { λ r. ⌜ r ≡ bigEndian (take 2 (now (s .entry))) ⌝ }
 {
-    big_endian_at(s, at, 2) as u16
+    big_endian(s, 2) as u16
 }
 
-// The number of the four bytes at a place, likewise.
-pub fn big_endian_4_at(s: &[u8], at: usize) -> u32
-    ensures { λ r. ⌜ r ≡ bigEndian (take 4 (drop at (now (s .entry)))) ⌝ }
+// The number of the first four bytes, likewise.
+pub fn big_endian_4(s: &[u8]) -> u32
+    ensures { λ r. ⌜ r ≡ bigEndian (take 4 (now (s .entry))) ⌝ }
 {
-    big_endian_at(s, at, 4) as u32
+    big_endian(s, 4) as u32
 }
 
-// The number of the eight bytes at a place, likewise.
-pub fn big_endian_8_at(s: &[u8], at: usize) -> u64
-    ensures { λ r. ⌜ r ≡ bigEndian (take 8 (drop at (now (s .entry)))) ⌝ }
+// The number of the first eight bytes, likewise.
+pub fn big_endian_8(s: &[u8]) -> u64
+    ensures { λ r. ⌜ r ≡ bigEndian (take 8 (now (s .entry))) ⌝ }
 {
-    big_endian_at(s, at, 8)
+    big_endian(s, 8)
 }
 
 // The two bytes of n.
@@ -58,30 +59,15 @@ pub fn big_endian_bytes_8(n: u64) -> [u8; 8]
     [a, b, c, d, e, f, g, h]
 }
 
-// The number of the n bytes at a place. Where fewer are there, it is that of those.
-fn big_endian_at(s: &[u8], at: usize, n: usize) -> u64
+// The number of the first n bytes, or of all where there are fewer.
+fn big_endian(s: &[u8], n: usize) -> u64
     requires { ⌜ n ≤ 8 ⌝ }
-    ensures { λ r. ⌜ (r ≡ bigEndian (take n (drop at (now (s .entry))))) × (r < 256 ^ n) ⌝ }
-{
-    if s.len() < at {
-        return 0;
-    }
-    let rest = s.len() - at;
-    if rest < n {
-        return number(s, at, rest);
-    }
-    number(s, at, n)
-}
-
-// The number of n bytes that are there.
-fn number(s: &[u8], at: usize, n: usize) -> u64
-    requires { ⌜ (n ≤ 8) × (at + n ≤ length (now s)) ⌝ }
-    ensures { λ r. ⌜ (r ≡ bigEndian (take n (drop at (now (s .entry))))) × (r < 256 ^ n) ⌝ }
+    ensures { λ r. ⌜ (r ≡ bigEndian (take n (now (s .entry)))) × (r < 256 ^ n) ⌝ }
 {
     let mut x: u64 = 0;
     let mut i: usize = 0;
-    while i < n {
-        x = x * 256 + wide(s[at + i]);
+    while i < n && i < s.len() {
+        x = x * 256 + wide(s[i]);
         i += 1;
     }
     x

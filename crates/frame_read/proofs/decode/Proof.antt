@@ -1,9 +1,11 @@
 -- `frame_read::decode` meets its contract: each answer is the definition's, by the tests and the calls that led to it. Assumes nothing.
+use Prim.Native.Nat.{_+_}
 use mathlib.Core.Path.{sym, ap, _∙_}
 use native.Mathlib.Omega.{arith}
 use lib.ListN.{take, drop}
 use denote.Ref.{now}
 use Rattle.wire.specs.Bytes.{sameBytes}
+use Rattle.wire_numbers.specs.PartLaws.{number-part}
 use Rattle.frame_read.specs.Answers.{bodyAnswer}
 use Rattle.frame_read.proofs.AnswerLaws.{frame-outside, frame-short, frame-other, frame-long, frame-got, frame-refused}
 use borrow.Author.Needs.{needs}
@@ -32,20 +34,14 @@ returns-3 c =
     let m = sym (c .before .stands-at .ensures ∙ ap (sameBytes (take 4 (drop (a .at .0) (now (a .s))))) (c .before .before .magic .ensures)) ∙ not-true _ (c .if3 .taken) in
     sym (frame-other (a .network) (now (a .s)) (a .at .0) (omega arith) m)
 
-add-big-endian-4-at : tie.Need-add-big-endian-4-at
-add-big-endian-4-at c = search needs
-
-big-endian-4-at-requires : tie.Need-big-endian-4-at-requires
-big-endian-4-at-requires c κs = search needs
-
-cast-n : tie.Need-cast-n
-cast-n c = search needs
-
 returns-4 : tie.Need-returns-4
 returns-4 c =
-    let a = c .before .before .before .before .before .before .before .before .args in
-    let m = sym (c .before .before .before .stands-at .ensures ∙ ap (sameBytes (take 4 (drop (a .at .0) (now (a .s))))) (c .before .before .before .before .magic .ensures)) ∙ not-false _ (c .before .before .if3 .left) in
-    sym (frame-long (a .network) (now (a .s)) (a .at .0) _ (omega arith) m (c .before .big-endian-4-at .ensures) (c .if4 .taken))
+    let f = c .before in
+    let t = f .before .before .before in
+    let a = t .before .before .before .before .before .args in
+    let m = sym (t .stands-at .ensures ∙ ap (sameBytes (take 4 (drop (a .at .0) (now (a .s))))) (t .before .magic .ensures)) ∙ not-false _ (f .before .before .if3 .left) in
+    let n = number-part 4 (now (a .s)) (a .at .0 + 5) (a .at .0 + 9) (omega arith) (f .big-endian-4 .ensures) in
+    sym (frame-long (a .network) (now (a .s)) (a .at .0) _ (omega arith) m n (c .if4 .taken))
 
 add-code : tie.Need-add-code
 add-code c = search needs
@@ -67,17 +63,23 @@ enum-known-m c = search needs
 
 returns-5 : tie.Need-returns-5
 returns-5 c =
-    let a = c .before .before .before .before .before .before .before .before .before .before .before .before .before .args in
-    let m = sym (c .before .before .before .before .before .before .before .before .stands-at .ensures ∙ ap (sameBytes (take 4 (drop (a .at .0) (now (a .s))))) (c .before .before .before .before .before .before .before .before .before .magic .ensures)) ∙ not-false _ (c .before .before .before .before .before .before .before .if3 .left) in
-    let b = (sym (c .before .before .before .read-body .ensures) ∙ ap bodyAnswer (c .before .body .given .1)) in
-    sym (frame-got (a .network) (now (a .s)) (a .at .0) _ (omega arith) m (c .before .before .before .before .before .before .big-endian-4-at .ensures) (omega arith) _ _ b)
+    let f = c .before .before .before .before .before .before in
+    let t = f .before .before .before in
+    let a = t .before .before .before .before .before .args in
+    let m = sym (t .stands-at .ensures ∙ ap (sameBytes (take 4 (drop (a .at .0) (now (a .s))))) (t .before .magic .ensures)) ∙ not-false _ (f .before .before .if3 .left) in
+    let n = number-part 4 (now (a .s)) (a .at .0 + 5) (a .at .0 + 9) (omega arith) (f .big-endian-4 .ensures) in
+    let b = sym (c .before .before .before .read-body .ensures) ∙ ap bodyAnswer (c .before .body .given .1) in
+    sym (frame-got (a .network) (now (a .s)) (a .at .0) _ (omega arith) m n (omega arith) _ _ b)
 
 returns-6 : tie.Need-returns-6
 returns-6 c =
-    let a = c .before .before .before .before .before .before .before .before .before .before .before .before .before .args in
-    let m = sym (c .before .before .before .before .before .before .before .before .stands-at .ensures ∙ ap (sameBytes (take 4 (drop (a .at .0) (now (a .s))))) (c .before .before .before .before .before .before .before .before .before .magic .ensures)) ∙ not-false _ (c .before .before .before .before .before .before .before .if3 .left) in
-    let b = (sym (c .before .before .before .read-body .ensures) ∙ ap bodyAnswer (c .before .m .given .1)) in
-    sym (frame-refused (a .network) (now (a .s)) (a .at .0) _ (omega arith) m (c .before .before .before .before .before .before .big-endian-4-at .ensures) (omega arith) _ b)
+    let f = c .before .before .before .before .before .before in
+    let t = f .before .before .before in
+    let a = t .before .before .before .before .before .args in
+    let m = sym (t .stands-at .ensures ∙ ap (sameBytes (take 4 (drop (a .at .0) (now (a .s))))) (t .before .magic .ensures)) ∙ not-false _ (f .before .before .if3 .left) in
+    let n = number-part 4 (now (a .s)) (a .at .0 + 5) (a .at .0 + 9) (omega arith) (f .big-endian-4 .ensures) in
+    let b = sym (c .before .before .before .read-body .ensures) ∙ ap bodyAnswer (c .before .m .given .1) in
+    sym (frame-refused (a .network) (now (a .s)) (a .at .0) _ (omega arith) m n (omega arith) _ b)
 
 pub decode-spec : {M : Type 1} → statement M
 decode-spec =
@@ -89,9 +91,13 @@ decode-spec =
     magic-requires
     stands-at-requires
     returns-3
-    add-big-endian-4-at
-    big-endian-4-at-requires
-    cast-n
+    (λ c. search needs)
+    (λ c. search needs)
+    (λ c. search needs)
+    (λ c. search needs)
+    (λ c. search needs)
+    (λ c κs. search needs)
+    (λ c. search needs)
     returns-4
     add-code
     shared-slice-read-code

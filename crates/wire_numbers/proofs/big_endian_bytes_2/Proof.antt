@@ -1,7 +1,7 @@
 -- `wire_numbers::big_endian_bytes_2` meets its contract: the two bytes are the definition's.
 use borrow.Author.Needs.{needs}
 use Rattle.wire.specs.Bytes.{bigEndianBytes}
-use Rattle.wire_numbers.proofs.WidthLaws.{lowest}
+use Rattle.wire_numbers.proofs.NumberLaws.{lowest}
 use Rattle.wire_numbers.proofs.big_endian_bytes_2.Statement.{statement}
 use Rattle.wire_numbers.proofs.big_endian_bytes_2.Tie as tie
 
