@@ -13,11 +13,11 @@ mod shape;
 mod tables;
 mod writers;
 
-// A file of cases has at most 240,000 bytes.
-const MOST: usize = 240_000;
+// A file of cases has at most 260,000 bytes.
+const MOST: usize = 260_000;
 
 fn main() {
-    let mut cases = [0u8; 240_001];
+    let mut cases = [0u8; 260_001];
     let n = io::read_full(STDIN_FILENO, &mut cases);
     if MOST < n {
         print_bad();

@@ -18,7 +18,7 @@ const PER_KIND: usize = 6;
 const ACCEPTED: usize = 10;
 /// The longest input beside a function's boundaries, and the longest file, that `crates/export_replay` takes.
 const LONGEST_INPUT: usize = 400;
-const LONGEST_FILE: usize = 240_000;
+const LONGEST_FILE: usize = 260_000;
 /// The longest output that it has.
 const MOST_ROOM: u64 = 640;
 /// What each slot of a result array, and each byte of an output, holds before a call.
