@@ -220,7 +220,8 @@ uint8_t haspeljo_write_handshake(uint8_t *out, size_t n, size_t at, uint64_t tim
 /* A handshake with the features Mode and Session. light is 0 for a full node, verifying 0 for one that does not verify. kind, high, low and port
  * are the address as haspeljo_parse gives it: 16 for a kind other than 0, 4 and 6, and of IPv4 for a high above 2^32 - 1 or a low other than 0;
  * of no address they are not looked at. Refuses 16, 12, 13, 4, 14. */
-uint8_t haspeljo_build(uint8_t *out, size_t n, size_t at, uint8_t mainnet, uint8_t light, uint8_t statetype, uint8_t verifying, int32_t blocks,
+uint8_t haspeljo_build(uint8_t *out, size_t n, size_t at, uint8_t mainnet, uint8_t light, uint8_t state_type_id,
+    uint8_t verifying, int32_t blocks_to_keep,
     uint8_t major, uint8_t minor, uint8_t patch, uint8_t kind, uint64_t high, uint64_t low, uint16_t port, uint64_t timestamp, int64_t session,
     const uint8_t *agent, size_t agent_n, const uint8_t *name, size_t name_n, uint64_t r[1]);
 
@@ -235,15 +236,15 @@ uint8_t haspeljo_write_peers(uint8_t *out, size_t n, size_t at, uint8_t mainnet,
     const uint32_t *features, size_t features_n, const uint8_t *buffer, size_t buffer_n, uint64_t r[1]);
 
 /* ModifierRequest: a type byte and ids. Refuses 12, 10, 14. */
-uint8_t haspeljo_write_modifier_request(uint8_t *out, size_t n, size_t at, uint8_t mainnet, uint8_t kind, const uint32_t *ids, size_t ids_n,
+uint8_t haspeljo_write_modifier_request(uint8_t *out, size_t n, size_t at, uint8_t mainnet, uint8_t modifier_type, const uint32_t *ids, size_t ids_n,
     const uint8_t *buffer, size_t buffer_n, uint64_t r[1]);
 
 /* ModifierResponse: a type byte and payloads. Refuses 16, 12, 3, 10, 7, 14. */
-uint8_t haspeljo_write_modifier_response(uint8_t *out, size_t n, size_t at, uint8_t mainnet, uint8_t kind, const uint32_t *payloads,
+uint8_t haspeljo_write_modifier_response(uint8_t *out, size_t n, size_t at, uint8_t mainnet, uint8_t modifier_type, const uint32_t *payloads,
     size_t payloads_n, const uint8_t *buffer, size_t buffer_n, uint64_t r[1]);
 
 /* Inv: a type byte and ids. Refuses 12, 10, 14. */
-uint8_t haspeljo_write_inv(uint8_t *out, size_t n, size_t at, uint8_t mainnet, uint8_t kind, const uint32_t *ids, size_t ids_n,
+uint8_t haspeljo_write_inv(uint8_t *out, size_t n, size_t at, uint8_t mainnet, uint8_t modifier_type, const uint32_t *ids, size_t ids_n,
     const uint8_t *buffer, size_t buffer_n, uint64_t r[1]);
 
 /* SyncInfo, whose body is written as it is. Refuses 12, 7, 14. */

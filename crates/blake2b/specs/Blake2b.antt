@@ -26,8 +26,8 @@ abbrev pub kk : ℕ
 kk = 0
 
 -- 2.1: an input has fewer bytes than this
-unfoldable pub limit : ℕ
-limit = 2 ^ 128
+unfoldable pub llBound : ℕ
+llBound = 2 ^ 128
 
 -- 2.1: the rotations of G
 abbrev pub R1 : ℕ

@@ -8,14 +8,14 @@ use native.Mathlib.Omega.{arith}
 use lib.ListN.{length, take, drop, replicate}
 use lib.Pow.{mod-pow-add}
 use Rattle.blake2b_hash.specs.declared.Hash.{Hash}
-use Rattle.blake2b.specs.Blake2b.{w, bb, limit, words, F}
+use Rattle.blake2b.specs.Blake2b.{w, bb, llBound, words, F}
 use Rattle.blake2b.specs.Blake2bLaws.{d-padded}
 use Rattle.blake2b_hash.specs.Running.{hash, counted, advanced, ended}
 
 -- the low word, and the high word with the carry
 counted-words : (x : Hash) (n low high : ℕ) → low ≡ (x .t0 + n) % 2 ^ w → high ≡ (x .t1 + (x .t0 + n) / 2 ^ w) % 2 ^ w
     → low + high * 2 ^ w ≡ counted x n
-unfolding counted limit
+unfolding counted llBound
 counted-words x n low high el eh =
     let t : ℕ = x .t0 + x .t1 * 2 ^ w + n in
     let l : t % 2 ^ w ≡ low = omega arith in

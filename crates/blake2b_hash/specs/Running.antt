@@ -5,14 +5,14 @@ use mathlib.Core.List.{List}
 use Prim.Native.Nat.{ℕ, _+_, _-_, _*_, _%_, _^_}
 use lib.ListN.{length, take, drop}
 use Rattle.blake2b_hash.specs.declared.Hash.{Hash}
-use Rattle.blake2b.specs.Blake2b.{w, bb, limit, _>>_, for, words, unwords, F, dd, d, h0}
+use Rattle.blake2b.specs.Blake2b.{w, bb, llBound, _>>_, for, words, unwords, F, dd, d, h0}
 
 abbrev pub hash : List ℕ → ℕ → Hash
 hash h t = record { h = h; t0 = t % 2 ^ w; t1 = t >> w }
 
 -- the counter, n bytes further
 unfoldable pub counted : Hash → ℕ → ℕ
-counted x n = (x .t0 + x .t1 * 2 ^ w + n) % limit
+counted x n = (x .t0 + x .t1 * 2 ^ w + n) % llBound
 
 -- before the first block
 unfoldable pub started : ℕ → Hash

@@ -11,45 +11,45 @@ use native.Mathlib.Omega.{arith}
 use lib.ListN.{length, take, drop, replicate, length-drop}
 use lib.Seq.{drop-drop}
 use Rattle.blake2b_hash.specs.declared.Hash.{Hash}
-use Rattle.blake2b.specs.Blake2b.{w, bb, limit, for, words, unwords, F, dd, d, h0, blake2b}
+use Rattle.blake2b.specs.Blake2b.{w, bb, llBound, for, words, unwords, F, dd, d, h0, blake2b}
 use Rattle.blake2b.specs.Blake2bLaws.{words-take, d-whole, dd-before}
 use Rattle.blake2b_hash.specs.Running.{hash, counted, started, advanced, stepped, absorbed, ended, finished, run}
 
 -- ---- from the start of the input
 
 -- a counter that stays below the limit
-counted-hash : (h : List ℕ) (t n : ℕ) → t + n < limit → counted (hash h t) n ≡ t + n
+counted-hash : (h : List ℕ) (t n : ℕ) → t + n < llBound → counted (hash h t) n ≡ t + n
 unfolding counted
 counted-hash h t n l =
     let e : t % 2 ^ w + t / 2 ^ w * 2 ^ w ≡ t = omega arith in
-    ap (λ (k : ℕ). (k + n) % limit) e ∙ mod-eq-of-lt l
+    ap (λ (k : ℕ). (k + n) % llBound) e ∙ mod-eq-of-lt l
 
 -- the RFC's loop over the first i blocks
 abbrev loop : ℕ → List ℕ → ℕ → List ℕ
 loop nn s i = for i (λ i h. F h (d s i) ((i + 1) * bb) false) (h0 nn)
 
-next : (h m : List ℕ) (i : ℕ) → i * bb + bb < limit → advanced (hash h (i * bb)) m ≡ hash (F h m ((i + 1) * bb) false) (suc i * bb)
+next : (h m : List ℕ) (i : ℕ) → i * bb + bb < llBound → advanced (hash h (i * bb)) m ≡ hash (F h m ((i + 1) * bb) false) (suc i * bb)
 unfolding advanced
 next h m i l =
     let e : i * bb + bb ≡ (i + 1) * bb = omega arith in
     let g : (i + 1) * bb ≡ suc i * bb = omega arith in
     ap (λ (t : ℕ). hash (F h m t false) t) (counted-hash h (i * bb) bb l ∙ e) ∙ ap (hash (F h m ((i + 1) * bb) false)) g
 
-absorbed-loop : (nn : ℕ) (s : List ℕ) (i : ℕ) → i * bb < limit → absorbed (started nn) s i ≡ hash (loop nn s i) (i * bb)
+absorbed-loop : (nn : ℕ) (s : List ℕ) (i : ℕ) → i * bb < llBound → absorbed (started nn) s i ≡ hash (loop nn s i) (i * bb)
 unfolding absorbed started for
 absorbed-loop nn s zero l = refl
 absorbed-loop nn s (suc i) l =
     let e : i * bb + bb ≡ suc i * bb = omega arith in
-    let m : i * bb + bb < limit = omega arith in
+    let m : i * bb + bb < llBound = omega arith in
     ap (λ (x : Hash). advanced x (d s i)) (absorbed-loop nn s i (omega arith)) ∙ next (loop nn s i) (d s i) i m
 
 -- finished with the whole input right after the start
-pub finished-started : (nn : ℕ) (s : List ℕ) → length s < limit → finished nn (started nn) s ≡ blake2b nn s
+pub finished-started : (nn : ℕ) (s : List ℕ) → length s < llBound → finished nn (started nn) s ≡ blake2b nn s
 unfolding finished ended blake2b
 finished-started nn s l =
     let i : ℕ = dd (length s) - 1 in
     let e : i * bb + (length s - i * bb) ≡ length s = omega (arith, dd-before (length s)) in
-    let m : i * bb < limit = omega (arith, dd-before (length s)) in
+    let m : i * bb < llBound = omega (arith, dd-before (length s)) in
     let c : counted (hash (loop nn s i) (i * bb)) (length s - i * bb) ≡ length s =
     counted-hash (loop nn s i) (i * bb) (length s - i * bb) (rw e l) ∙ e in
     ap (λ (x : Hash). take nn (unwords (ended x s i))) (absorbed-loop nn s i m)
@@ -100,7 +100,7 @@ steps x s (suc k) l =
 
 -- The theorem: a run that is split after any number of whole blocks, with some of the input left or nothing absorbed before,
 -- gives the RFC's digest of the whole input.
-pub run-digest : (nn : ℕ) (s : List ℕ) (k : ℕ) → length s < limit → (k ≡ 0) ⊎ (k * bb < length s) → run nn s k ≡ blake2b nn s
+pub run-digest : (nn : ℕ) (s : List ℕ) (k : ℕ) → length s < llBound → (k ≡ 0) ⊎ (k * bb < length s) → run nn s k ≡ blake2b nn s
 unfolding run
 run-digest nn s k l split =
     ⊎-elim (λ z. rw z (unfold for in (finished-started nn s l)))

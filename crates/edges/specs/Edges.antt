@@ -7,7 +7,7 @@ use mathlib.Core.Path.{_≡_, refl}
 use lib.IntN.{ℤ, pos, negℤ}
 use Rattle.wire.specs.Bytes.{bigEndianFrom, bigEndian}
 use Rattle.wire.specs.Reader.{Answer, got, refused, mapAnswer, Segment, fold, listOf}
-use Rattle.vlq_utf8.specs.Utf8.{rows, leadIn, leadOf, utf8From, utf8}
+use Rattle.vlq_utf8.specs.Utf8.{leadRows, leadIn, leadOf, utf8From, utf8}
 use Rattle.vlq.specs.Vlq.{groups, vlq, vlqLength, vlqIn, vlqBytes}
 use Rattle.vlq.specs.ShortString.{string, shortString}
 use Rattle.vlq_zigzag.specs.Zigzag.{zigzagEncode, zigzagDecode}
@@ -22,7 +22,7 @@ use Rattle.address_sanity.specs.Bogus.{contains, someContains, bogus}
 use Rattle.handshake.specs.Entry.{version, addressOf, address, addressIf, entry}
 use Rattle.handshake.specs.Verdict.{firstFeature, otherMagic, validatePeer}
 use Rattle.handshake.specs.Writes.{Config, nipopow, modeFeature}
-use Rattle.messages.specs.Message.{Message, inv, count, header, ids, message}
+use Rattle.messages.specs.Message.{Message, inv, count, inventoryHeader, ids, message}
 
 -- what a definition gives, and what document 01 says
 pub record Case : Type 1 where
@@ -34,8 +34,8 @@ abbrev case : (A : Type 0) → A → A → Case
 case A gives says = record { Value = A; gives = gives; says = says }
 
 -- a number's VLQ: written as these bytes, and these bytes read as the number
-abbrev written : ℕ → List ℕ → Case
-written n bytes = case (List ℕ) (vlqBytes n) bytes
+abbrev writtenAs : ℕ → List ℕ → Case
+writtenAs n bytes = case (List ℕ) (vlqBytes n) bytes
 
 abbrev read : List ℕ → Answer ℕ → Case
 read bytes answer = case (Answer ℕ) (vlq bytes 0) answer
@@ -94,14 +94,14 @@ isBogus ip network answer = case Bool (bogus (V4 ip 9030) network) answer
 unfoldable pub cases : List Case
 cases =
     -- 127 is 7F; 128 is 80 01; 300 is AC 02.
-    written 127 (0x7f ∷ [])
+    writtenAs 127 (0x7f ∷ [])
     ∷ read (0x7f ∷ []) (got 127 1)
-    ∷ written 128 (0x80 ∷ 0x01 ∷ [])
+    ∷ writtenAs 128 (0x80 ∷ 0x01 ∷ [])
     ∷ read (0x80 ∷ 0x01 ∷ []) (got 128 2)
-    ∷ written 300 (0xac ∷ 0x02 ∷ [])
+    ∷ writtenAs 300 (0xac ∷ 0x02 ∷ [])
     ∷ read (0xac ∷ 0x02 ∷ []) (got 300 2)
     -- 16,388,608 is 80 A4 E8 07; 81 A4 E8 07 as a length: 3.
-    ∷ written 16388608 (0x80 ∷ 0xa4 ∷ 0xe8 ∷ 0x07 ∷ [])
+    ∷ writtenAs 16388608 (0x80 ∷ 0xa4 ∷ 0xe8 ∷ 0x07 ∷ [])
     ∷ asLength (0x80 ∷ 0xa4 ∷ 0xe8 ∷ 0x07 ∷ []) (got 16388608 4)
     ∷ asLength (0x81 ∷ 0xa4 ∷ 0xe8 ∷ 0x07 ∷ []) (refused 3)
     -- Nine FF then 01, or then 7F: 2^64 - 1. Nine FF then 80: 2.
@@ -140,12 +140,12 @@ cases =
     ∷ isBogus (ipv4 172 32 0 0) Testnet false
     ∷ []
 
-unfoldable pub Each : List Case → Type 0
-Each [] = Unit {0}
-Each (c ∷ cs) = (c .gives ≡ c .says) × Each cs
+unfoldable pub EachAgrees : List Case → Type 0
+EachAgrees [] = Unit {0}
+EachAgrees (c ∷ cs) = (c .gives ≡ c .says) × EachAgrees cs
 
-pub all-cases : Each cases
-unfolding Each cases groups vlq vlqLength vlqIn vlqBytes zigzagEncode zigzagDecode string shortString rows leadIn leadOf utf8From utf8
+pub all-cases : EachAgrees cases
+unfolding EachAgrees cases groups vlq vlqLength vlqIn vlqBytes zigzagEncode zigzagDecode string shortString leadRows leadIn leadOf utf8From utf8
     version addressOf address addressIf entry bigEndian bigEndianFrom fold listOf nipopow modeFeature
-    thenBy below firstFeature otherMagic validatePeer count header ids message alwaysV4 mainnetV4 contains someContains bogus mapAnswer
+    thenBy below firstFeature otherMagic validatePeer count inventoryHeader ids message alwaysV4 mainnetV4 contains someContains bogus mapAnswer
 all-cases = (refl, (refl, (refl, (refl, (refl, (refl, (refl, (refl, (refl, (refl, (refl, (refl, (refl, (refl, (refl, (refl, (refl, (refl, (refl, (refl, (refl, (refl, (refl, (refl, (refl, (refl, (refl, (refl, (refl, (refl, (refl, (refl, (refl, (refl, tt))))))))))))))))))))))))))))))))))

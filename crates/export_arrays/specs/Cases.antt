@@ -105,7 +105,7 @@ abbrev peers : Peers
 peers = record { count = 12; bogus = 13; start = inBody 14 }
 
 abbrev inventory : Inventory
-inventory = record { kind = 11; count = 12; start = inBody 14 }
+inventory = record { «modifier_type» = 11; count = 12; start = inBody 14 }
 
 abbrev payload : Payload
 payload = record { id = inBody 11; start = inBody 12; len = 13 }

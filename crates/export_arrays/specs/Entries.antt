@@ -27,15 +27,15 @@ withAddress timestamp p None next = entryArray timestamp p 0 0 0 0 next
 withAddress timestamp p (V4 ip port) next = entryArray timestamp p 4 ip 0 port next
 withAddress timestamp p (V6 high low port) next = entryArray timestamp p 6 high low port next
 
-abbrev pub entryNumbers : ℕ → PeerSpec → ℕ → List ℕ
-entryNumbers timestamp p next = withAddress timestamp p (p .address) next
+abbrev pub peerNumbers : ℕ → PeerSpec → ℕ → List ℕ
+peerNumbers timestamp p next = withAddress timestamp p (p .address) next
 
 abbrev pub handshakeNext : Handshake → ℕ → List ℕ
-handshakeNext h next = entryNumbers (h .timestamp) (h .peer) next
+handshakeNext h next = peerNumbers (h .timestamp) (h .peer) next
 
 -- an entry has no timestamp
 abbrev pub entryNext : PeerSpec → ℕ → List ℕ
-entryNext p next = entryNumbers 0 p next
+entryNext p next = peerNumbers 0 p next
 
 -- an entry with places in the stream
 abbrev pub streamEntryNext : StreamEntry → ℕ → List ℕ

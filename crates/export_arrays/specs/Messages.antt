@@ -12,7 +12,7 @@ abbrev pub noNumbers : ℕ → List ℕ
 noNumbers next = 0 ∷ 0 ∷ 0 ∷ 0 ∷ next ∷ []
 
 abbrev pub inventoryNumbers : Inventory → ℕ → List ℕ
-inventoryNumbers i next = i .kind ∷ i .count ∷ 0 ∷ i .start .0 ∷ next ∷ []
+inventoryNumbers i next = i .«modifier_type» ∷ i .count ∷ 0 ∷ i .start .0 ∷ next ∷ []
 
 -- type byte, count, bogus count, the first one's place, next place
 unfoldable pub messageNumbers : Message → ℕ → List ℕ

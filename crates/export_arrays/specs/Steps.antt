@@ -15,15 +15,15 @@ stepArray kind a b c = kind ∷ a ∷ b ∷ c ∷ 0 ∷ 0 ∷ 0 ∷ 0 ∷ 0 ∷ 
 
 -- start, end, code, the body's place and length, type byte, count, bogus count, the first one's place
 abbrev pub messageArray : MessageItem → ℕ → ℕ → ℕ → ℕ → List ℕ
-messageArray i kind count bogus first =
-    2 ∷ i .start .0 ∷ i .end .0 ∷ i .code ∷ i .body .start .0 ∷ i .body .len ∷ kind ∷ count ∷ bogus ∷ first ∷ 0 ∷ []
+messageArray i modifierType count bogus first =
+    2 ∷ i .start .0 ∷ i .end .0 ∷ i .code ∷ i .body .start .0 ∷ i .body .len ∷ modifierType ∷ count ∷ bogus ∷ first ∷ 0 ∷ []
 
 unfoldable pub withMessage : MessageItem → Message → List ℕ
 withMessage i Messages.GetPeers = messageArray i 0 0 0 0
 withMessage i (Messages.Peers p) = messageArray i 0 (p .count) (p .bogus) (p .start .0)
-withMessage i (Messages.ModifierRequest l) = messageArray i (l .kind) (l .count) 0 (l .start .0)
-withMessage i (Messages.ModifierResponse l) = messageArray i (l .kind) (l .count) 0 (l .start .0)
-withMessage i (Messages.Inv l) = messageArray i (l .kind) (l .count) 0 (l .start .0)
+withMessage i (Messages.ModifierRequest l) = messageArray i (l .«modifier_type») (l .count) 0 (l .start .0)
+withMessage i (Messages.ModifierResponse l) = messageArray i (l .«modifier_type») (l .count) 0 (l .start .0)
+withMessage i (Messages.Inv l) = messageArray i (l .«modifier_type») (l .count) 0 (l .start .0)
 withMessage i Messages.SyncInfo = messageArray i 0 0 0 0
 withMessage i Messages.Unknown = messageArray i 0 0 0 0
 

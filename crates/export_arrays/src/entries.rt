@@ -1,7 +1,7 @@
 // The numbers of an entry and of a URL.
 ghost use mathlib.Core.Path.{_≡_};
 ghost use Rattle.handshake_verdict.specs.Answers.{url};
-ghost use Rattle.export_arrays.specs.Entries.{entryArray, entryNumbers, urlNext, streamEntryNext};
+ghost use Rattle.export_arrays.specs.Entries.{entryArray, peerNumbers, urlNext, streamEntryNext};
 use handshake_read::Features;
 use handshake_read::PeerSpec;
 use handshake_verdict::Url;
@@ -19,7 +19,7 @@ pub fn url_numbers(u: Url, next: usize) -> [u64; 4]
 }
 
 pub fn entry_numbers(timestamp: u64, p: PeerSpec, next: usize) -> [u64; 15]
-    ensures { λ r. ⌜ r ≡ entryNumbers timestamp p next ⌝ }
+    ensures { λ r. ⌜ r ≡ peerNumbers timestamp p next ⌝ }
 {
     let a = p.address;
     match a {

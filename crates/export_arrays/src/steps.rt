@@ -55,16 +55,22 @@ fn message_array(i: MessageItem) -> [u64; 11]
     match message {
         Message::GetPeers => message_numbers(i, 0, 0, 0, 0),
         Message::Peers(p) => message_numbers(i, 0, p.count, p.bogus, p.start.0),
-        Message::ModifierRequest(l) => message_numbers(i, l.kind, l.count, 0, l.start.0),
-        Message::ModifierResponse(l) => message_numbers(i, l.kind, l.count, 0, l.start.0),
-        Message::Inv(l) => message_numbers(i, l.kind, l.count, 0, l.start.0),
+        Message::ModifierRequest(l) => message_numbers(i, l.modifier_type, l.count, 0, l.start.0),
+        Message::ModifierResponse(l) => message_numbers(i, l.modifier_type, l.count, 0, l.start.0),
+        Message::Inv(l) => message_numbers(i, l.modifier_type, l.count, 0, l.start.0),
         Message::SyncInfo => message_numbers(i, 0, 0, 0, 0),
         Message::Unknown => message_numbers(i, 0, 0, 0, 0),
     }
 }
 
-fn message_numbers(i: MessageItem, kind: u8, count: usize, bogus: usize, first: usize) -> [u64; 11]
-    ensures { λ r. ⌜ r ≡ messageArray i kind count bogus first ⌝ }
+fn message_numbers(
+    i: MessageItem,
+    modifier_type: u8,
+    count: usize,
+    bogus: usize,
+    first: usize,
+) -> [u64; 11]
+    ensures { λ r. ⌜ r ≡ messageArray i «modifier_type» count bogus first ⌝ }
 {
     [
         2,
@@ -73,7 +79,7 @@ fn message_numbers(i: MessageItem, kind: u8, count: usize, bogus: usize, first: 
         i.code as u64,
         i.body.start.0 as u64,
         i.body.len as u64,
-        kind as u64,
+        modifier_type as u64,
         count as u64,
         bogus as u64,
         first as u64,

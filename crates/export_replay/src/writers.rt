@@ -145,11 +145,27 @@ fn lent_list(
     r: &mut [u64; 1],
 ) -> u8 {
     let mainnet = small(s, 16);
-    let kind = small(s, 24);
+    let modifier_type = small(s, 24);
     match function {
-        41 => writers::haspeljo_write_modifier_request(out, at, mainnet, kind, table, buffer, r),
-        42 => writers::haspeljo_write_modifier_response(out, at, mainnet, kind, table, buffer, r),
-        _ => writers::haspeljo_write_inv(out, at, mainnet, kind, table, buffer, r),
+        41 => writers::haspeljo_write_modifier_request(
+            out,
+            at,
+            mainnet,
+            modifier_type,
+            table,
+            buffer,
+            r,
+        ),
+        42 => writers::haspeljo_write_modifier_response(
+            out,
+            at,
+            mainnet,
+            modifier_type,
+            table,
+            buffer,
+            r,
+        ),
+        _ => writers::haspeljo_write_inv(out, at, mainnet, modifier_type, table, buffer, r),
     }
 }
 

@@ -26,23 +26,23 @@ use Rattle.exports.proofs.ExportLaws.{writer-leaves}
 
 -- a Config of these parts
 abbrev pub made : Network → ProxyMode → ℕ → Bool → ℤ → Version → Address → ℕ → ℤ → Config
-made network mode statetype verifying blocks version address timestamp session =
+made network mode stateType verifying blocksToKeep version address timestamp session =
     record {
       network = network;
       mode = mode;
-      statetype = statetype;
+      «state_type_id» = stateType;
       verifying = verifying;
-      blocks = blocks;
+      «blocks_to_keep» = blocksToKeep;
       version = version;
       address = address;
       timestamp = timestamp;
       session = session;
     }
 
-pub made-same : {n n′ : Network} {m m′ : ProxyMode} {b b′ : Bool} {v v′ : Version} {a a′ : Address} (statetype : ℕ) (blocks : ℤ) (timestamp : ℕ) (session : ℤ)
-    → n ≡ n′ → m ≡ m′ → b ≡ b′ → v ≡ v′ → a ≡ a′ → {blocks′ session′ : ℤ} → blocks′ ≡ blocks → session′ ≡ session
-    → made n m statetype b blocks′ v a timestamp session′ ≡ made n′ m′ statetype b′ blocks v′ a′ timestamp session
-made-same statetype blocks timestamp session en em eb ev ea ek es = λ i. made (en i) (em i) statetype (eb i) (ek i) (ev i) (ea i) timestamp (es i)
+pub made-same : {n n′ : Network} {m m′ : ProxyMode} {b b′ : Bool} {v v′ : Version} {a a′ : Address} (stateType : ℕ) (blocksToKeep : ℤ) (timestamp : ℕ) (session : ℤ)
+    → n ≡ n′ → m ≡ m′ → b ≡ b′ → v ≡ v′ → a ≡ a′ → {blocksToKeep′ session′ : ℤ} → blocksToKeep′ ≡ blocksToKeep → session′ ≡ session
+    → made n m stateType b blocksToKeep′ v a timestamp session′ ≡ made n′ m′ stateType b′ blocksToKeep v′ a′ timestamp session
+made-same stateType blocksToKeep timestamp session en em eb ev ea ek es = λ i. made (en i) (em i) stateType (eb i) (ek i) (ev i) (ea i) timestamp (es i)
 
 -- the number of an IPv4 address is below 2^32
 pub v4-below : (kind high low : ℕ) → kind ≡ 4 → addressNumbers kind high low ≡ true → high < 2 ^ 32

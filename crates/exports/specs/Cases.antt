@@ -51,9 +51,9 @@ config network mode verifying address =
     record {
       network = network;
       mode = mode;
-      statetype = 20;
+      «state_type_id» = 20;
       verifying = verifying;
-      blocks = pos 21;
+      «blocks_to_keep» = pos 21;
       version = record { major = 22; minor = 23; patch = 24 };
       address = address;
       timestamp = 26;
@@ -153,7 +153,7 @@ writes =
     ∷ []
 
 pub all-writes : map (λ (c : Case Written). c .computed) writes ≡ map (λ (c : Case Written). c .is) writes
-unfolding writes builtFromWritten addressNumbers networkOf modeOf isSet addressFrom built written asked entriesAsked shortStrings utf8Strings fewFeatures lengthsWithin utf8 utf8From leadOf leadIn Utf8.rows
+unfolding writes builtFromWritten addressNumbers networkOf modeOf isSet addressFrom built written asked entriesAsked shortStrings utf8Strings fewFeatures lengthsWithin utf8 utf8From leadOf leadIn Utf8.leadRows
     every bigEndianBytes entryBytes handshakeBytes versionBytes addressBytes featureBytes flatMap vlqBytes vlqIn modeFeature sessionFeature nipopow zigzagEncode
 all-writes = refl
 

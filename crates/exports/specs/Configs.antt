@@ -34,13 +34,13 @@ unfoldable pub addressNumbers : ℕ → ℕ → ℕ → Bool
 addressNumbers kind high low = eqb kind 0 || eqb kind 6 || eqb kind 4 && ltb high (2 ^ 32) && eqb low 0
 
 abbrev pub builtFrom : ℕ → ℕ → ℕ → ℕ → ℤ → ℕ → ℕ → ℕ → ℕ → ℕ → ℕ → ℕ → ℕ → ℤ → Config
-builtFrom mainnet light statetype verifying blocks major minor patch kind high low port timestamp session =
+builtFrom mainnet light stateType verifying blocksToKeep major minor patch kind high low port timestamp session =
     record {
       network = networkOf mainnet;
       mode = modeOf light;
-      statetype = statetype;
+      «state_type_id» = stateType;
       verifying = isSet verifying;
-      blocks = blocks;
+      «blocks_to_keep» = blocksToKeep;
       version = record { major = major; minor = minor; patch = patch };
       address = addressFrom kind high low port;
       timestamp = timestamp;

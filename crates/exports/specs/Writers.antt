@@ -7,8 +7,8 @@ use Rattle.vlq.specs.ShortString.{shortStringBytes}
 use Rattle.vlq_write.specs.Asked.{shortStringAsked}
 use Rattle.types.specs.declared.Network.{Network}
 use Rattle.handshake.specs.Value.{entryBytes, handshakeBytes}
-use Rattle.handshake.specs.Tables.{Lent}
-use Rattle.handshake.specs.Writes.{entryAt, entryWritten, handshakeAt, handshakeWritten, Config, built}
+use Rattle.handshake.specs.Tables.{Tables}
+use Rattle.handshake.specs.Writes.{entryAtRow, entryWritten, handshakeAtRow, handshakeWritten, Config, built}
 use Rattle.frame.specs.Frame.{frameBytes}
 use Rattle.frame.specs.Writes.{frameWritten}
 use Rattle.messages.specs.Writes.{MessageWrite, valueOf, messageBytes, messageWritten}
@@ -24,12 +24,12 @@ shortStringWriter s = record { says = λ out at. written [] (shortStringAsked s)
 abbrev pub partWriter : List ℕ → Writer
 partWriter s = record { says = λ out at. written [] [] out at s; bytes = s }
 
-abbrev pub entryWriter : Lent → ℕ → Writer
-entryWriter l index = record { says = entryWritten l index; bytes = entryBytes (entryAt l index) }
+abbrev pub entryWriter : Tables → ℕ → Writer
+entryWriter l index = record { says = entryWritten l index; bytes = entryBytes (entryAtRow l index) }
 
-abbrev pub handshakeWriter : ℕ → Lent → ℕ → Writer
+abbrev pub handshakeWriter : ℕ → Tables → ℕ → Writer
 handshakeWriter timestamp l index =
-    record { says = handshakeWritten timestamp l index; bytes = handshakeBytes (handshakeAt timestamp l index) }
+    record { says = handshakeWritten timestamp l index; bytes = handshakeBytes (handshakeAtRow timestamp l index) }
 
 abbrev pub frameWriter : Network → ℕ → List ℕ → Writer
 frameWriter network code body = record { says = frameWritten network code body; bytes = frameBytes network code body }

@@ -15,10 +15,10 @@ ghost use Rattle.exports.specs.Results.{ReaderLeaves};
 use export_arrays::bodies::message_numbers;
 use export_arrays::entries::entry_numbers;
 use messages_inventory_read::IdRead;
-use messages_inventory_read::PayloadAt;
+use messages_inventory_read::PayloadByIndexRead;
 use messages_inventory_read::PayloadRead;
 use messages_read::MessageRead;
-use messages_read::PeerRead;
+use messages_read::PeerEntryRead;
 use messages_read::PeersRead;
 use types::BodyPlace;
 
@@ -82,11 +82,11 @@ pub extern "C" fn haspeljo_entry_by_index(
         (now (r .entry)) (now (r .exit)) ⌝ }
 {
     match messages_read::entry_by_index(body, cap, index) {
-        PeerRead::Value(peer, next) => {
+        PeerEntryRead::Value(peer, next) => {
             *r = entry_numbers(0, peer, next.0);
             0
         }
-        PeerRead::Refused(m) => m,
+        PeerEntryRead::Refused(m) => m,
     }
 }
 
@@ -138,10 +138,10 @@ pub extern "C" fn haspeljo_payload_by_index(body: &[u8], index: usize, r: &mut [
         (now (r .entry)) (now (r .exit)) ⌝ }
 {
     match messages_inventory_read::payload_by_index(body, index) {
-        PayloadAt::Value(p, next) => {
+        PayloadByIndexRead::Value(p, next) => {
             *r = [p.id.0 as u64, p.start.0 as u64, p.len as u64, next.0 as u64];
             0
         }
-        PayloadAt::Refused(m) => m,
+        PayloadByIndexRead::Refused(m) => m,
     }
 }

@@ -1,7 +1,7 @@
 // Writers for Rust and C, each from a place of a lent output. r is the place after what was written.
 ghost use mathlib.Core.Bool.{true};
 ghost use mathlib.Core.Path.{_≡_};
-ghost use Rattle.handshake.specs.Tables.{lent};
+ghost use Rattle.handshake.specs.Tables.{tables};
 ghost use Rattle.handshake_build.specs.Parts.{configOf};
 ghost use Rattle.messages.specs.Writes.{writeGetPeers, writePeers, writeModifierRequest, writeModifierResponse, writeInv, writeSyncInfo, writeUnknown};
 ghost use Rattle.export_arrays.specs.Networks.{networkOf};
@@ -60,7 +60,7 @@ pub extern "C" fn haspeljo_write_entry(
     index: usize,
     r: &mut [u64; 1],
 ) -> u8
-    ensures { λ n. ⌜ WriterLeaves (entryWriter (lent (now (entries .entry)) (now (features .entry)) (now (buffer .entry))) index) at n
+    ensures { λ n. ⌜ WriterLeaves (entryWriter (tables (now (entries .entry)) (now (features .entry)) (now (buffer .entry))) index) at n
         (now (r .entry)) (now (r .exit)) (now (out .entry)) (now (out .exit)) ⌝ }
 {
     let w = handshake_entry_write::write_entry(out, at, entries, features, buffer, index);
@@ -79,7 +79,7 @@ pub extern "C" fn haspeljo_write_handshake(
     index: usize,
     r: &mut [u64; 1],
 ) -> u8
-    ensures { λ n. ⌜ WriterLeaves (handshakeWriter timestamp (lent (now (entries .entry)) (now (features .entry)) (now (buffer .entry))) index) at n
+    ensures { λ n. ⌜ WriterLeaves (handshakeWriter timestamp (tables (now (entries .entry)) (now (features .entry)) (now (buffer .entry))) index) at n
         (now (r .entry)) (now (r .exit)) (now (out .entry)) (now (out .exit)) ⌝ }
 {
     let w = handshake_write::write_handshake(out, at, timestamp, entries, features, buffer, index);
@@ -130,7 +130,7 @@ pub extern "C" fn haspeljo_write_peers(
     buffer: &[u8],
     r: &mut [u64; 1],
 ) -> u8
-    ensures { λ n. ⌜ WriterLeaves (messageWriter (networkOf mainnet) cap (writePeers (lent (now (entries .entry)) (now (features .entry)) (now (buffer .entry))))) at n
+    ensures { λ n. ⌜ WriterLeaves (messageWriter (networkOf mainnet) cap (writePeers (tables (now (entries .entry)) (now (features .entry)) (now (buffer .entry))))) at n
         (now (r .entry)) (now (r .exit)) (now (out .entry)) (now (out .exit)) ⌝ }
 {
     let w = messages_peers_write::write_peers(
@@ -151,19 +151,19 @@ pub extern "C" fn haspeljo_write_modifier_request(
     out: &mut [u8],
     at: usize,
     mainnet: u8,
-    kind: u8,
+    modifier_type: u8,
     ids: &[u32],
     buffer: &[u8],
     r: &mut [u64; 1],
 ) -> u8
-    ensures { λ n. ⌜ WriterLeaves (messageWriter (networkOf mainnet) 0 (writeModifierRequest kind (now (ids .entry)) (now (buffer .entry)))) at n
+    ensures { λ n. ⌜ WriterLeaves (messageWriter (networkOf mainnet) 0 (writeModifierRequest «modifier_type» (now (ids .entry)) (now (buffer .entry)))) at n
         (now (r .entry)) (now (r .exit)) (now (out .entry)) (now (out .exit)) ⌝ }
 {
     let w = messages_inventory_write::write_modifier_request(
         out,
         at,
         crate::network_of(mainnet),
-        kind,
+        modifier_type,
         ids,
         buffer,
     );
@@ -176,19 +176,19 @@ pub extern "C" fn haspeljo_write_modifier_response(
     out: &mut [u8],
     at: usize,
     mainnet: u8,
-    kind: u8,
+    modifier_type: u8,
     payloads: &[u32],
     buffer: &[u8],
     r: &mut [u64; 1],
 ) -> u8
-    ensures { λ n. ⌜ WriterLeaves (messageWriter (networkOf mainnet) 0 (writeModifierResponse kind (now (payloads .entry)) (now (buffer .entry)))) at n
+    ensures { λ n. ⌜ WriterLeaves (messageWriter (networkOf mainnet) 0 (writeModifierResponse «modifier_type» (now (payloads .entry)) (now (buffer .entry)))) at n
         (now (r .entry)) (now (r .exit)) (now (out .entry)) (now (out .exit)) ⌝ }
 {
     let w = messages_response_write::write_modifier_response(
         out,
         at,
         crate::network_of(mainnet),
-        kind,
+        modifier_type,
         payloads,
         buffer,
     );
@@ -201,19 +201,19 @@ pub extern "C" fn haspeljo_write_inv(
     out: &mut [u8],
     at: usize,
     mainnet: u8,
-    kind: u8,
+    modifier_type: u8,
     ids: &[u32],
     buffer: &[u8],
     r: &mut [u64; 1],
 ) -> u8
-    ensures { λ n. ⌜ WriterLeaves (messageWriter (networkOf mainnet) 0 (writeInv kind (now (ids .entry)) (now (buffer .entry)))) at n
+    ensures { λ n. ⌜ WriterLeaves (messageWriter (networkOf mainnet) 0 (writeInv «modifier_type» (now (ids .entry)) (now (buffer .entry)))) at n
         (now (r .entry)) (now (r .exit)) (now (out .entry)) (now (out .exit)) ⌝ }
 {
     let w = messages_inventory_write::write_inv(
         out,
         at,
         crate::network_of(mainnet),
-        kind,
+        modifier_type,
         ids,
         buffer,
     );
@@ -261,9 +261,9 @@ pub extern "C" fn haspeljo_build(
     at: usize,
     mainnet: u8,
     light: u8,
-    statetype: u8,
+    state_type_id: u8,
     verifying: u8,
-    blocks: i32,
+    blocks_to_keep: i32,
     major: u8,
     minor: u8,
     patch: u8,
@@ -278,7 +278,7 @@ pub extern "C" fn haspeljo_build(
     r: &mut [u64; 1],
 ) -> u8
     ensures { λ n. ⌜ WriterLeaves (buildWriter kind high low
-        (configOf (builtFrom mainnet light statetype verifying blocks major minor patch kind high low port timestamp session)
+        (configOf (builtFrom mainnet light «state_type_id» verifying «blocks_to_keep» major minor patch kind high low port timestamp session)
         (now (agent .entry)) (now (name .entry)))) at n
         (now (r .entry)) (now (r .exit)) (now (out .entry)) (now (out .exit)) ⌝ }
 {
@@ -293,9 +293,9 @@ pub extern "C" fn haspeljo_build(
     let config = Config {
         network,
         mode,
-        statetype,
+        state_type_id,
         verifying: verifies,
-        blocks,
+        blocks_to_keep,
         version,
         address,
         timestamp,

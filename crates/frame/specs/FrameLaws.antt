@@ -132,8 +132,8 @@ least-frame network = record { moves = λ s at f e h q. let p = frame-places net
 -- a field reads back where its value is that of the bytes that stand there
 reads-field : {A X : Type 0} (m n : ℕ) (v : List ℕ → ℕ → A) {see : A → X} {w : List ℕ} {x : X} → length w ≡ n
     → ((s : List ℕ) (at : ℕ) → StandsAt s at w → see (v s at) ≡ x) → ReadsBack (field m n v) see w x
-reads-field m n v {see} {w} long h =
-    record { reads = λ s at g. (v s at, field-got m n v s at (omega (arith, g .within)) ∙ ap (λ (k : ℕ). got (v s at) (at + k)) (sym long), h s at g) }
+reads-field m n v {see} {w} size h =
+    record { reads = λ s at g. (v s at, field-got m n v s at (omega (arith, g .within)) ∙ ap (λ (k : ℕ). got (v s at) (at + k)) (sym size), h s at g) }
 
 stands-first : {s : List ℕ} {at b : ℕ} {bs : List ℕ} → StandsAt s at (b ∷ bs) → getD s at 0 ≡ b
 stands-first {s} {at} {b} {bs} h =

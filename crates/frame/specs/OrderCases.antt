@@ -34,12 +34,12 @@ cases most over =
     ∷ case [] (replicate 9 7) 0 (To 9)
     ∷ []
 
-unfoldable pub Each : List Case → Type 0
-Each [] = Unit {0}
-Each (c ∷ cs) = (frameWritten Mainnet 55 (c .body) (c .out) (c .at) ≡ c .says) × Each cs
+unfoldable pub EachAgrees : List Case → Type 0
+EachAgrees [] = Unit {0}
+EachAgrees (c ∷ cs) = (frameWritten Mainnet 55 (c .body) (c .out) (c .at) ≡ c .says) × EachAgrees cs
 
-pub all-cases : (most over : List ℕ) → length most ≡ 16388608 → length over ≡ 16388609 → Each (cases most over)
-unfolding cases Each frameWritten written asked bodyStart
+pub all-cases : (most over : List ℕ) → length most ≡ 16388608 → length over ≡ 16388609 → EachAgrees (cases most over)
+unfolding cases EachAgrees frameWritten written asked bodyStart
 all-cases most over m o = (
   refl,
   (

@@ -51,14 +51,14 @@ module _ (network : Network) (s : List ℕ) (at : ℕ) where
   unfolding frame mapAnswer
   frame-other h m = rw (header-got s at h, m)
 
-  module _ (n : ℕ) (inside : at + 9 ≤ length s) (magic : sameBytes (take 4 (drop at s)) (magicOf network) ≡ true) (long : n ≡ bigEndian (take 4 (drop (at + 5) s))) where
+  module _ (n : ℕ) (inside : at + 9 ≤ length s) (magic : sameBytes (take 4 (drop at s)) (magicOf network) ≡ true) (size : n ≡ bigEndian (take 4 (drop (at + 5) s))) where
     pub frame-long : limit < n → mapAnswer frameOf (frame network s at) ≡ refused 7
     unfolding frame mapAnswer
-    frame-long h = rw (header-got s at inside, magic, ← long, lt-leb n limit h)
+    frame-long h = rw (header-got s at inside, magic, ← size, lt-leb n limit h)
 
     frame-body : n ≤ limit → frame network s at ≡ bind (body n s (at + 9)) (λ b e. got (record { code = getD s (at + 4) 0; body = b }) e)
     unfolding frame
-    frame-body h = rw (header-got s at inside, magic, ← long, le-leb n limit h)
+    frame-body h = rw (header-got s at inside, magic, ← size, le-leb n limit h)
 
     pub frame-got : n ≤ limit → (p : StreamPart) (e : ℕ) → mapAnswer streamPartOf (body n s (at + 9)) ≡ got p e
         → mapAnswer frameOf (frame network s at) ≡ got (record { code = getD s (at + 4) 0; body = p }) e

@@ -49,7 +49,7 @@ pub fn decode(s: &[u8], network: Network, at: StreamPlace) -> FrameRead
         return FrameRead::Refused(5);
     }
     let magic = network.magic();
-    if !wire::stands_at(s, start, magic) {
+    if !wire::matches_at(s, start, magic) {
         return FrameRead::Refused(6);
     }
     let n = big_endian_4(&s[start + 5..start + MIN_HEADER_SIZE]) as usize;
@@ -78,7 +78,7 @@ fn read_body(s: &[u8], at: usize, n: usize) -> BodyRead
     let start = at + CHECK_SIZE;
     let end = start + n;
     let check = blake2b_hash::check(&s[start..end]);
-    if !wire::stands_at(s, at, check) {
+    if !wire::matches_at(s, at, check) {
         return BodyRead::Refused(9);
     }
     let body = StreamPart {

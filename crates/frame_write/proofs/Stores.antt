@@ -9,7 +9,7 @@ use Rattle.wire.specs.Output.{put, Wrote}
 use Rattle.wire.specs.OutputLaws.{wrote-byte, wrote-then}
 use Rattle.types.specs.declared.Network.{Network}
 use Rattle.types.specs.Magic.{magicOf}
-use Rattle.frame_write.specs.FrameWriteLaws.{headBytes}
+use Rattle.frame_write.specs.FrameWriteLaws.{headerBytes}
 
 pub four-stored : (out : List ℕ) (at : ℕ) (four : List ℕ) → length four ≡ 4
     → Wrote out at four (at + 4)
@@ -26,8 +26,8 @@ four-stored out at (a ∷ b ∷ c ∷ d ∷ []) h =
 four-stored out at (a ∷ b ∷ c ∷ d ∷ e ∷ l) h = absurd (omega arith)
 
 -- magic, code, body length
-pub head-stored : (network : Network) (code : ℕ) (n : ℕ) {out mid last magic long : List ℕ} {at m e : ℕ} → magic ≡ magicOf network → long ≡ bigEndianBytes 4 n
-    → Wrote out at magic m mid → Wrote (set mid m code) (m + 1) long e last → Wrote out at (headBytes network code n) e last
-unfolding headBytes
+pub head-stored : (network : Network) (code : ℕ) (n : ℕ) {out mid last magic size : List ℕ} {at m e : ℕ} → magic ≡ magicOf network → size ≡ bigEndianBytes 4 n
+    → Wrote out at magic m mid → Wrote (set mid m code) (m + 1) size e last → Wrote out at (headerBytes network code n) e last
+unfolding headerBytes
 head-stored network code n {mid = mid} {m = m} p q v w =
     wrote-then (rw p at v) (wrote-then (wrote-byte mid m code) (rw q at w))

@@ -25,13 +25,13 @@ use Rattle.frame.specs.Writes.{frameWritten}
 use Rattle.frame_write.specs.Asked.{frameLength, frameWrittenFor}
 
 -- magic, code and body length
-unfoldable pub headBytes : Network → ℕ → ℕ → List ℕ
-headBytes network code n = magicOf network ++ (code ∷ bigEndianBytes 4 n)
+unfoldable pub headerBytes : Network → ℕ → ℕ → List ℕ
+headerBytes network code n = magicOf network ++ (code ∷ bigEndianBytes 4 n)
 
 -- ---- lengths
 
-pub length-head : (network : Network) (code n : ℕ) → length (headBytes network code n) ≡ 9
-unfolding headBytes
+pub length-head : (network : Network) (code n : ℕ) → length (headerBytes network code n) ≡ 9
+unfolding headerBytes
 length-head network code n = omega (arith, length-append (magicOf network) (code ∷ bigEndianBytes 4 n), length-magic network, length-bigEndianBytes 4 n)
 
 pub length-frame : (network : Network) (code : ℕ) (body : List ℕ) → length (frameBytes network code body) ≡ frameLength (length body)
@@ -51,45 +51,45 @@ frameLength-body (suc n) h = refl
 
 -- a frame whose body has bytes: all before the body, and then the body
 frame-parts : (network : Network) (code : ℕ) (body : List ℕ) → 0 < length body
-    → frameBytes network code body ≡ (headBytes network code (length body) ++ check body) ++ body
-unfolding frameBytes checkedBytes headBytes
+    → frameBytes network code body ≡ (headerBytes network code (length body) ++ check body) ++ body
+unfolding frameBytes checkedBytes headerBytes
 frame-parts network code [] h = absurd (omega arith)
 frame-parts network code (b ∷ bs) h =
     let body : List ℕ = b ∷ bs in
     sym (append-assoc (magicOf network) (code ∷ bigEndianBytes 4 (length body)) (check body ++ body))
     ∙ sym (append-assoc (magicOf network ++ (code ∷ bigEndianBytes 4 (length body))) (check body) body)
 
-length-before : (network : Network) (code n : ℕ) (body : List ℕ) → length (headBytes network code n ++ check body) ≡ 13
-length-before network code n body = omega (arith, length-append (headBytes network code n) (check body), length-head network code n, length-check body)
+length-before : (network : Network) (code n : ℕ) (body : List ℕ) → length (headerBytes network code n ++ check body) ≡ 13
+length-before network code n body = omega (arith, length-append (headerBytes network code n) (check body), length-head network code n, length-check body)
 
 -- an empty body has no check
-frame-empty : (network : Network) (code : ℕ) → frameBytes network code [] ≡ headBytes network code 0
-unfolding frameBytes checkedBytes headBytes
+frame-empty : (network : Network) (code : ℕ) → frameBytes network code [] ≡ headerBytes network code 0
+unfolding frameBytes checkedBytes headerBytes
 frame-empty network code = ap (λ (l : List ℕ). magicOf network ++ (code ∷ l)) (append-nil (bigEndianBytes 4 0))
 
 -- ---- a frame around a body that stands there
 
 -- all before the body was stored, and the body stands there
 pub wrote-before : (network : Network) (code : ℕ) (out : List ℕ) (at n : ℕ) {e f : ℕ} {four mid last : List ℕ} → 0 < n → at + frameLength n ≤ length out
-    → four ≡ check (take n (drop (at + 13) out)) → Wrote out at (headBytes network code n) e mid → Wrote mid e four f last
+    → four ≡ check (take n (drop (at + 13) out)) → Wrote out at (headerBytes network code n) e mid → Wrote mid e four f last
     → Wrote out at (frameBytes network code (take n (drop (at + 13) out))) (f + n) last
 wrote-before network code out at n {e} {f} {four} {mid} {last} some room c v w =
     let body : List ℕ = take n (drop (at + 13) out) in
     let h : at + 13 + n ≤ length out = omega (arith, frameLength-body n some) in
     let l : length body ≡ n = length-part n out (at + 13) h in
     let four-long : length four ≡ 4 = ap length c ∙ length-check body in
-    let x : Wrote out at (headBytes network code n ++ four) f last = wrote-then v w in
-    let long : length (headBytes network code n ++ four) ≡ 13 = omega (arith, length-append (headBytes network code n) four, length-head network code n) in
-    let parts : frameBytes network code body ≡ (headBytes network code n ++ four) ++ body =
-    frame-parts network code body (omega arith) ∙ ap (λ (k : ℕ). (headBytes network code k ++ check body) ++ body) l
-    ∙ ap (λ (y : List ℕ). (headBytes network code n ++ y) ++ body) (sym c) in
+    let x : Wrote out at (headerBytes network code n ++ four) f last = wrote-then v w in
+    let size : length (headerBytes network code n ++ four) ≡ 13 = omega (arith, length-append (headerBytes network code n) four, length-head network code n) in
+    let parts : frameBytes network code body ≡ (headerBytes network code n ++ four) ++ body =
+    frame-parts network code body (omega arith) ∙ ap (λ (k : ℕ). (headerBytes network code k ++ check body) ++ body) l
+    ∙ ap (λ (y : List ℕ). (headerBytes network code n ++ y) ++ body) (sym c) in
     record {
       end = omega (arith, x .end, length-frame network code body, frameLength-body n some, ap frameLength l);
-      bytes = x .bytes ∙ sym (put-standing out at (headBytes network code n ++ four) (at + 13) n (omega arith) h) ∙ ap (put out at) (sym parts);
+      bytes = x .bytes ∙ sym (put-standing out at (headerBytes network code n ++ four) (at + 13) n (omega arith) h) ∙ ap (put out at) (sym parts);
     }
 
 -- the head alone is the frame of an empty body
-pub wrote-empty : (network : Network) (code : ℕ) (out : List ℕ) (at n : ℕ) {e : ℕ} {last : List ℕ} → n ≡ 0 → Wrote out at (headBytes network code n) e last
+pub wrote-empty : (network : Network) (code : ℕ) (out : List ℕ) (at n : ℕ) {e : ℕ} {last : List ℕ} → n ≡ 0 → Wrote out at (headerBytes network code n) e last
     → Wrote out at (frameBytes network code (take n (drop (at + 13) out))) e last
 wrote-empty network code out at n {e} {last} z w =
     rw z (rw (frame-empty network code) (rw z at w))
@@ -116,13 +116,13 @@ module _ (network : Network) (code : ℕ) (out : List ℕ) (at : ℕ) (body : Li
         go [] h p q = rw p at q
         go (b ∷ bs) h p q =
             let body : List ℕ = b ∷ bs in
-            let before : List ℕ = headBytes network code (length body) ++ check body in
+            let before : List ℕ = headerBytes network code (length body) ++ check body in
             let parts : frameBytes network code body ≡ before ++ body = frame-parts network code body (omega arith) in
-            let long : length (before ++ body) ≡ 13 + length body =
+            let size : length (before ++ body) ≡ 13 + length body =
             omega (arith, length-before network code (length body) body, length-append before body) in
             q ∙ ap (λ (o : List ℕ). put o at (frameBytes network code body)) p ∙ ap (put (put out (at + 13) body) at) parts
-            ∙ put-over out at (before ++ body) body (at + 13) (omega arith) (omega (arith, long))
-            (omega (arith, long, frameLength-body (length body) (omega arith)))
+            ∙ put-over out at (before ++ body) body (at + 13) (omega arith) (omega (arith, size))
+            (omega (arith, size, frameLength-body (length body) (omega arith)))
             ∙ ap (put out at) (sym parts)
 
     -- and then the frame around it
@@ -135,7 +135,7 @@ module _ (network : Network) (code : ℕ) (out : List ℕ) (at : ℕ) (body : Li
         → last ≡ outputAfter r mid at (frameBytes network code (take (length body) (drop (at + 13) mid))) → last ≡ put out at (frameBytes network code body)
     unfolding outputAfter frameWrittenFor asked
     closed {r} {last} small says left =
-        let long : length mid ≡ length out = wrote-length v in
+        let size : length mid ≡ length out = wrote-length v in
         let p : r ≡ To (at + frameLength (length body)) =
         says ∙ rw (le-leb at (length mid) (omega arith), le-leb (length body) limit small, le-leb (at + frameLength (length body)) (length mid) (omega arith)) in
         around (rw (p, stands) at left)

@@ -8,7 +8,7 @@ ghost use Rattle.vlq.specs.Vlq.{limit};
 ghost use Rattle.frame.specs.Frame.{frameBytes};
 ghost use Rattle.frame.specs.Writes.{frameWritten};
 ghost use Rattle.frame_write.specs.Asked.{frameLength, frameWrittenFor};
-ghost use Rattle.frame_write.specs.FrameWriteLaws.{headBytes};
+ghost use Rattle.frame_write.specs.FrameWriteLaws.{headerBytes};
 use frame::HEADER_SIZE;
 use frame::MIN_HEADER_SIZE;
 use types::Network;
@@ -50,11 +50,11 @@ pub fn ask_frame(len: usize, at: usize, n: usize) -> Written
     if MAX_BODY_SIZE < n {
         return Written::Refused(7);
     }
-    let long = frame_len(n);
-    if len - at < long {
+    let size = frame_len(n);
+    if len - at < size {
         return Written::Refused(14);
     }
-    Written::To(at + long)
+    Written::To(at + size)
 }
 
 // How many bytes a frame with a body of n bytes has.
@@ -98,7 +98,7 @@ fn put_frame(out: &mut [u8], at: usize, network: Network, code: u8, n: usize) ->
 fn put_head(out: &mut [u8], at: usize, network: Network, code: u8, n: usize) -> usize
     requires { ⌜ n ≤ limit ⌝ }
     requires { ⌜ at + 9 ≤ length (now out) ⌝ }
-    ensures { λ r. ⌜ Wrote (now (out .entry)) at (headBytes network code n) r (now (out .exit)) ⌝ }
+    ensures { λ r. ⌜ Wrote (now (out .entry)) at (headerBytes network code n) r (now (out .exit)) ⌝ }
 {
     let magic = network.magic();
     let end = put_four(out, at, magic);

@@ -87,7 +87,7 @@ number-below k bytes are e = rw e at (bigEndian-below bytes are)
 bytes-number : (k : ℕ) (bytes : List ℕ) → every isByte bytes ≡ true → length bytes ≡ k → bigEndianBytes k (bigEndian bytes) ≡ bytes
 bytes-number k bytes are e = rw e at (bytes-bigEndian bytes are)
 
-module _ (l : ℕ) (bytes : List ℕ) (port : ℕ) (are : every isByte bytes ≡ true) (long : length bytes ≡ l - 4) where
+module _ (l : ℕ) (bytes : List ℕ) (port : ℕ) (are : every isByte bytes ≡ true) (size : length bytes ≡ l - 4) where
   first-8 : l ≡ 20 → length (take 8 bytes) ≡ 8
   first-8 e = length-take 8 bytes ∙ omega arith
 

@@ -5,7 +5,7 @@ use mathlib.Core.Option.{Option, none, some}
 use mathlib.Core.Path.{_≡_, refl}
 use Rattle.wire.specs.Bytes.{bigEndianFrom, bigEndian, sameBytes}
 use Rattle.wire.specs.Reader.{Answer, got, refused, Segment, fold, listOf}
-use Rattle.vlq_utf8.specs.Utf8.{rows, leadIn, leadOf, utf8From, utf8}
+use Rattle.vlq_utf8.specs.Utf8.{leadRows, leadIn, leadOf, utf8From, utf8}
 use Rattle.vlq.specs.Vlq.{groups, vlq, vlqLength}
 use Rattle.vlq.specs.ShortString.{string, shortString}
 use Rattle.types.specs.declared.Network.{Network}
@@ -123,7 +123,7 @@ cases =
 
 pub all-cases : map (λ (c : Case). saidOf (c .asked)) cases ≡ map (λ (c : Case). c .says) cases
 unfolding cases saidOf
-    bigEndianFrom bigEndian sameBytes fold listOf rows leadIn leadOf utf8From utf8 groups vlq vlqLength string shortString thenBy below
+    bigEndianFrom bigEndian sameBytes fold listOf leadRows leadIn leadOf utf8From utf8 groups vlq vlqLength string shortString thenBy below
     version addressOf address addressIf feature entry handshake featureValue entryValue handshakeValue
     firstFeature otherMagic validatePeer stringFrom urlOf restApiUrl
 all-cases = refl

@@ -22,13 +22,13 @@ use Rattle.types.specs.declared.Version.{Version}
 use Rattle.types.specs.declared.Address.the-variants.{None}
 use Rattle.handshake.specs.Entry.{addressOf}
 use Rattle.handshake.specs.Value.{FeatureValue, EntryValue, addressBytes, featureBytes, versionBytes, entryBytes, handshakeBytes, shortStrings, utf8Strings, fewFeatures, lengthsWithin, entriesAsked}
-use Rattle.handshake.specs.Tables.{rows, Lent, lent, featureOf, entryOf, wholeRows, featureNumbers, entryNumbers, tablesWhole, inside, featureInside, entryInside}
+use Rattle.handshake.specs.Tables.{rows, Tables, tables, featureFromRow, entryFromRow, wholeRows, featureNumbers, entryNumbers, tablesWhole, inside, featureInside, entryInside}
 use Rattle.handshake.specs.Writes.{rowInside, entryWritten, handshakeWritten, Config, nipopow, modeFeature, sessionFeature, built, builtWritten}
 
 -- a write into an output of some length, from a place on
 pub data Write : Type 0 where
   -- row 0 of a table, and the same with the timestamp 0
-  anEntry aHandshake : Lent → ℕ → ℕ → Write
+  anEntry aHandshake : Tables → ℕ → ℕ → Write
   aBuild : Config → ℕ → ℕ → Write
   -- the questions of entries by value alone
   theValues : List EntryValue → Write
@@ -104,21 +104,21 @@ entryWith agent name n = record { agent = agent; version = v601; name = name; ad
 -- ---- the order
 
 -- two neighbouring questions answered "no"; each line puts the first of the line before it right
-abbrev inOrder : (Lent → ℕ → ℕ → Write) → List Case
+abbrev inOrder : (Tables → ℕ → ℕ → Write) → List Case
 inOrder w =
-    case (w (lent (row 0 0 65536 0) [] []) 0 1) (Refused 16)
-    ∷ case (w (lent (row 1 0 0 0) [] []) 0 1) (Refused 12)
-    ∷ case (w (lent (row 257 0 0 0) [] (bad 256)) 0 0) (Refused 12)
-    ∷ case (w (lent (row 256 0 0 0) [] (bad 256)) 0 0) (Refused 13)
-    ∷ case (w (lent (row 255 0 0 256) (empty 256) (bad 255)) 0 0) (Refused 4)
-    ∷ case (w (lent (row 255 0 0 256) (empty 256) (good 255)) 0 0) (Refused 15)
-    ∷ case (w (lent (row 255 0 0 0) [] (good 255)) 0 0) (Refused 14)
+    case (w (tables (row 0 0 65536 0) [] []) 0 1) (Refused 16)
+    ∷ case (w (tables (row 1 0 0 0) [] []) 0 1) (Refused 12)
+    ∷ case (w (tables (row 257 0 0 0) [] (bad 256)) 0 0) (Refused 12)
+    ∷ case (w (tables (row 256 0 0 0) [] (bad 256)) 0 0) (Refused 13)
+    ∷ case (w (tables (row 255 0 0 256) (empty 256) (bad 255)) 0 0) (Refused 4)
+    ∷ case (w (tables (row 255 0 0 256) (empty 256) (good 255)) 0 0) (Refused 15)
+    ∷ case (w (tables (row 255 0 0 0) [] (good 255)) 0 0) (Refused 14)
     -- 16 of a row that is not written and of a feature that is in no entry, before 12
-    ∷ case (w (lent (row 1 0 0 0 ++ row 0 0 65536 0) [] []) 0 0) (Refused 16)
-    ∷ case (w (lent (row 1 0 0 1) (0 ∷ 0 ∷ 0 ∷ 256 ∷ 0 ∷ 0 ∷ []) []) 0 0) (Refused 16)
+    ∷ case (w (tables (row 1 0 0 0 ++ row 0 0 65536 0) [] []) 0 0) (Refused 16)
+    ∷ case (w (tables (row 1 0 0 1) (0 ∷ 0 ∷ 0 ∷ 256 ∷ 0 ∷ 0 ∷ []) []) 0 0) (Refused 16)
     -- 12 of the last feature before 13 of the agent, 13 of the name before 4 of the agent
-    ∷ case (w (lent (row 256 0 0 2) (0 ∷ 0 ∷ 0 ∷ 0 ∷ 256 ∷ 1 ∷ []) (bad 256)) 0 0) (Refused 12)
-    ∷ case (w (lent (row 1 256 0 0) [] (bad 256)) 0 0) (Refused 13)
+    ∷ case (w (tables (row 256 0 0 2) (0 ∷ 0 ∷ 0 ∷ 0 ∷ 256 ∷ 1 ∷ []) (bad 256)) 0 0) (Refused 12)
+    ∷ case (w (tables (row 1 256 0 0) [] (bad 256)) 0 0) (Refused 13)
     ∷ []
 
 unfoldable pub cases : List Case
@@ -126,10 +126,10 @@ cases =
     inOrder anEntry
     ++ (inOrder aHandshake
     -- the room: an entry of 7 bytes, and with its timestamp 8
-    ++ (case (anEntry (lent (row 0 0 0 0) [] []) 8 1) (To 8)
-    ∷ case (anEntry (lent (row 0 0 0 0) [] []) 8 2) (Refused 14)
-    ∷ case (aHandshake (lent (row 0 0 0 0) [] []) 8 0) (To 8)
-    ∷ case (aHandshake (lent (row 0 0 0 0) [] []) 8 1) (Refused 14)
+    ++ (case (anEntry (tables (row 0 0 0 0) [] []) 8 1) (To 8)
+    ∷ case (anEntry (tables (row 0 0 0 0) [] []) 8 2) (Refused 14)
+    ∷ case (aHandshake (tables (row 0 0 0 0) [] []) 8 0) (To 8)
+    ∷ case (aHandshake (tables (row 0 0 0 0) [] []) 8 1) (Refused 14)
     -- `build`, line by line as above; 13 of the name before 4 of the agent; the room
     ∷ case (aBuild (config (good 256) []) 0 1) (Refused 12)
     ∷ case (aBuild (config (bad 256) []) 0 0) (Refused 13)
@@ -149,34 +149,34 @@ cases =
     ∷ case (theValues (entryWith [] (good 256) 0 ∷ [])) (Refused 13)
     ∷ case (theValues (entryWith [] [] 256 ∷ [])) (Refused 15)
     -- whole rows, ports below 65,536, versions and feature ids bytes, L 0, 8 or 20; if so, is row 0 there, is there room?
-    ∷ case (aHandshake (lent [] [] []) 0 0) (Refused 12)
-    ∷ case (aHandshake (lent (replicate 11 0) [] []) 0 0) (Refused 16)
-    ∷ case (aHandshake (lent (replicate 12 0) [] []) 0 0) (Refused 14)
-    ∷ case (aHandshake (lent (replicate 13 0) [] []) 0 0) (Refused 16)
-    ∷ case (aHandshake (lent (replicate 12 0) (0 ∷ 0 ∷ []) []) 0 0) (Refused 16)
-    ∷ case (aHandshake (lent (row 0 0 65535 0) [] []) 0 0) (Refused 14)
-    ∷ case (aHandshake (lent (row 0 0 65536 0) [] []) 0 0) (Refused 16)
-    ∷ case (aHandshake (lent (ofVersion 255 255 255) [] []) 0 0) (Refused 14)
-    ∷ case (aHandshake (lent (ofVersion 256 0 0) [] []) 0 0) (Refused 16)
-    ∷ case (aHandshake (lent (ofVersion 0 256 0) [] []) 0 0) (Refused 16)
-    ∷ case (aHandshake (lent (ofVersion 0 0 256) [] []) 0 0) (Refused 16)
-    ∷ case (aHandshake (lent (row 0 0 0 1) (255 ∷ 0 ∷ 0 ∷ []) []) 0 0) (Refused 14)
-    ∷ case (aHandshake (lent (row 0 0 0 1) (256 ∷ 0 ∷ 0 ∷ []) []) 0 0) (Refused 16)
-    ∷ case (aHandshake (lent (ofLength 7) [] (good 16)) 0 0) (Refused 16)
-    ∷ case (aHandshake (lent (ofLength 8) [] (good 16)) 0 0) (Refused 14)
-    ∷ case (aHandshake (lent (ofLength 9) [] (good 16)) 0 0) (Refused 16)
-    ∷ case (aHandshake (lent (ofLength 19) [] (good 16)) 0 0) (Refused 16)
-    ∷ case (aHandshake (lent (ofLength 20) [] (good 16)) 0 0) (Refused 14)
-    ∷ case (aHandshake (lent (ofLength 21) [] (good 17)) 0 0) (Refused 16)
+    ∷ case (aHandshake (tables [] [] []) 0 0) (Refused 12)
+    ∷ case (aHandshake (tables (replicate 11 0) [] []) 0 0) (Refused 16)
+    ∷ case (aHandshake (tables (replicate 12 0) [] []) 0 0) (Refused 14)
+    ∷ case (aHandshake (tables (replicate 13 0) [] []) 0 0) (Refused 16)
+    ∷ case (aHandshake (tables (replicate 12 0) (0 ∷ 0 ∷ []) []) 0 0) (Refused 16)
+    ∷ case (aHandshake (tables (row 0 0 65535 0) [] []) 0 0) (Refused 14)
+    ∷ case (aHandshake (tables (row 0 0 65536 0) [] []) 0 0) (Refused 16)
+    ∷ case (aHandshake (tables (ofVersion 255 255 255) [] []) 0 0) (Refused 14)
+    ∷ case (aHandshake (tables (ofVersion 256 0 0) [] []) 0 0) (Refused 16)
+    ∷ case (aHandshake (tables (ofVersion 0 256 0) [] []) 0 0) (Refused 16)
+    ∷ case (aHandshake (tables (ofVersion 0 0 256) [] []) 0 0) (Refused 16)
+    ∷ case (aHandshake (tables (row 0 0 0 1) (255 ∷ 0 ∷ 0 ∷ []) []) 0 0) (Refused 14)
+    ∷ case (aHandshake (tables (row 0 0 0 1) (256 ∷ 0 ∷ 0 ∷ []) []) 0 0) (Refused 16)
+    ∷ case (aHandshake (tables (ofLength 7) [] (good 16)) 0 0) (Refused 16)
+    ∷ case (aHandshake (tables (ofLength 8) [] (good 16)) 0 0) (Refused 14)
+    ∷ case (aHandshake (tables (ofLength 9) [] (good 16)) 0 0) (Refused 16)
+    ∷ case (aHandshake (tables (ofLength 19) [] (good 16)) 0 0) (Refused 16)
+    ∷ case (aHandshake (tables (ofLength 20) [] (good 16)) 0 0) (Refused 14)
+    ∷ case (aHandshake (tables (ofLength 21) [] (good 17)) 0 0) (Refused 16)
     -- with L = 0 the address place is not asked; without features the first row is, at most the number of rows
-    ∷ case (aHandshake (lent (ofPlace 3) [] (good 2)) 0 0) (Refused 14)
-    ∷ case (aHandshake (lent (ofFirst 2) (empty 2) []) 0 0) (Refused 14)
-    ∷ case (aHandshake (lent (ofFirst 3) (empty 2) []) 0 0) (Refused 12)
+    ∷ case (aHandshake (tables (ofPlace 3) [] (good 2)) 0 0) (Refused 14)
+    ∷ case (aHandshake (tables (ofFirst 2) (empty 2) []) 0 0) (Refused 14)
+    ∷ case (aHandshake (tables (ofFirst 3) (empty 2) []) 0 0) (Refused 12)
     ∷ []))
 
 pub all-cases : map (λ (c : Case). saidOf (c .write)) cases ≡ map (λ (c : Case). c .says) cases
 unfolding cases saidOf entryWritten handshakeWritten builtWritten built written asked tablesWhole wholeRows rows entryNumbers featureNumbers every rowInside entryInside inside featureInside
-    entriesAsked shortStrings utf8Strings fewFeatures lengthsWithin entryOf featureOf addressOf bigEndian bigEndianFrom bigEndianBytes utf8 utf8From leadOf leadIn Utf8.rows
+    entriesAsked shortStrings utf8Strings fewFeatures lengthsWithin entryFromRow featureFromRow addressOf bigEndian bigEndianFrom bigEndianBytes utf8 utf8From leadOf leadIn Utf8.leadRows
     entryBytes handshakeBytes versionBytes addressBytes featureBytes flatMap vlqBytes vlqIn modeFeature sessionFeature nipopow zigzagEncode
 all-cases = refl
 
@@ -191,18 +191,18 @@ longCases most over =
     -- 15 before 3, also where 15 is the second entry's; 3 before 14
     case (theValues (firstOf over 256 ∷ [])) (Refused 15)
     ∷ case (theValues (firstOf over 1 ∷ entryWith [] [] 256 ∷ [])) (Refused 15)
-    ∷ case (anEntry (lent (row 0 0 0 1) (0 ∷ 0 ∷ 16388609 ∷ []) over) 0 0) (Refused 3)
-    ∷ case (aHandshake (lent (row 0 0 0 1) (0 ∷ 0 ∷ 16388609 ∷ []) over) 0 0) (Refused 3)
+    ∷ case (anEntry (tables (row 0 0 0 1) (0 ∷ 0 ∷ 16388609 ∷ []) over) 0 0) (Refused 3)
+    ∷ case (aHandshake (tables (row 0 0 0 1) (0 ∷ 0 ∷ 16388609 ∷ []) over) 0 0) (Refused 3)
     -- the limit
     ∷ case (theValues (firstOf most 1 ∷ [])) (To 0)
     ∷ case (theValues (firstOf over 1 ∷ [])) (Refused 3)
     ∷ []
 
-unfoldable pub Each : List Case → Type 0
-Each [] = Unit {0}
-Each (c ∷ cs) = (saidOf (c .write) ≡ c .says) × Each cs
+unfoldable pub EachAgrees : List Case → Type 0
+EachAgrees [] = Unit {0}
+EachAgrees (c ∷ cs) = (saidOf (c .write) ≡ c .says) × EachAgrees cs
 
-pub all-long : (most over : List ℕ) → length most ≡ 16388608 → length over ≡ 16388609 → Each (longCases most over)
-unfolding longCases Each saidOf entryWritten handshakeWritten written asked tablesWhole wholeRows rows entryNumbers featureNumbers every rowInside entryInside inside featureInside
-    entriesAsked shortStrings utf8Strings fewFeatures lengthsWithin entryOf featureOf utf8 utf8From
+pub all-long : (most over : List ℕ) → length most ≡ 16388608 → length over ≡ 16388609 → EachAgrees (longCases most over)
+unfolding longCases EachAgrees saidOf entryWritten handshakeWritten written asked tablesWhole wholeRows rows entryNumbers featureNumbers every rowInside entryInside inside featureInside
+    entriesAsked shortStrings utf8Strings fewFeatures lengthsWithin entryFromRow featureFromRow utf8 utf8From
 all-long most over m o = (refl, (refl, (rw (length-take 16388609 over, o), (rw (length-take 16388609 over, o), (rw m, (rw o, tt))))))

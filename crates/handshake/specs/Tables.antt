@@ -48,23 +48,23 @@ entryRow t k =
     }
 
 -- the tables and the buffer of one call
-pub record Lent : Type 0 where
+pub record Tables : Type 0 where
   pub entries : List ℕ
   pub features : List ℕ
   pub buffer : List ℕ
 
-abbrev pub lent : List ℕ → List ℕ → List ℕ → Lent
-lent entries features buffer = record { entries = entries; features = features; buffer = buffer }
+abbrev pub tables : List ℕ → List ℕ → List ℕ → Tables
+tables entries features buffer = record { entries = entries; features = features; buffer = buffer }
 
-abbrev pub entryRows : Lent → List EntryRow
-entryRows l = rows (entryRow (l .entries)) 0 (length (l .entries) / entryRowSize)
+abbrev pub entryRows : Tables → List EntryRow
+entryRows ts = rows (entryRow (ts .entries)) 0 (length (ts .entries) / entryRowSize)
 
-abbrev pub featureRows : Lent → List FeatureRow
-featureRows l = rows (featureRow (l .features)) 0 (length (l .features) / featureRowSize)
+abbrev pub featureRows : Tables → List FeatureRow
+featureRows ts = rows (featureRow (ts .features)) 0 (length (ts .features) / featureRowSize)
 
 -- the feature rows that an entry's row names
-abbrev pub ownRows : Lent → EntryRow → List FeatureRow
-ownRows l r = rows (featureRow (l .features)) (r .first) (r .count)
+abbrev pub ownRows : Tables → EntryRow → List FeatureRow
+ownRows ts r = rows (featureRow (ts .features)) (r .first) (r .count)
 
 -- ---- what the rows mean
 
@@ -72,22 +72,22 @@ ownRows l r = rows (featureRow (l .features)) (r .first) (r .count)
 abbrev pub bytesAt : List ℕ → ℕ → ℕ → List ℕ
 bytesAt buffer at n = take n (drop at buffer)
 
-unfoldable pub featureOf : List ℕ → FeatureRow → FeatureValue
-featureOf buffer f = record { id = f .id; body = bytesAt buffer (f .at) (f .len) }
+unfoldable pub featureFromRow : List ℕ → FeatureRow → FeatureValue
+featureFromRow buffer f = record { id = f .id; body = bytesAt buffer (f .at) (f .len) }
 
 -- with L = 0 there is no address, and the port doesn't count
-unfoldable pub entryOf : Lent → EntryRow → EntryValue
-entryOf l r =
+unfoldable pub entryFromRow : Tables → EntryRow → EntryValue
+entryFromRow ts r =
     record {
-      agent = bytesAt (l .buffer) (r .agentat) (r .agentlen);
+      agent = bytesAt (ts .buffer) (r .agentat) (r .agentlen);
       version = record { major = r .major; minor = r .minor; patch = r .patch };
-      name = bytesAt (l .buffer) (r .nameat) (r .namelen);
-      address = addressOf (r .addrlen) (bytesAt (l .buffer) (r .addrat) (r .addrlen - 4)) (r .port);
-      features = map (featureOf (l .buffer)) (ownRows l r);
+      name = bytesAt (ts .buffer) (r .nameat) (r .namelen);
+      address = addressOf (r .addrlen) (bytesAt (ts .buffer) (r .addrat) (r .addrlen - 4)) (r .port);
+      features = map (featureFromRow (ts .buffer)) (ownRows ts r);
     }
 
-unfoldable pub entriesOf : Lent → List EntryValue
-entriesOf l = map (entryOf l) (entryRows l)
+unfoldable pub entriesOf : Tables → List EntryValue
+entriesOf ts = map (entryFromRow ts) (entryRows ts)
 
 -- ---- 16: has each table whole rows, with feature ids and versions being bytes, ports below 65,536 and address lengths 0, 8 or 20?
 
@@ -106,12 +106,12 @@ entryNumbers r =
     && (eqb (r .addrlen) 0 || (eqb (r .addrlen) ipv4Length || eqb (r .addrlen) ipv6Length)))))
 
 -- over every row of both tables, written or not
-unfoldable pub tablesWhole : Lent → Bool
-tablesWhole l =
-    wholeRows entryRowSize (l .entries)
-    && (wholeRows featureRowSize (l .features)
-    && (every entryNumbers (entryRows l)
-    && every featureNumbers (featureRows l)))
+unfoldable pub tablesWhole : Tables → Bool
+tablesWhole ts =
+    wholeRows entryRowSize (ts .entries)
+    && (wholeRows featureRowSize (ts .features)
+    && (every entryNumbers (entryRows ts)
+    && every featureNumbers (featureRows ts)))
 
 -- ---- 12: is each written part, and each written row, inside?
 
@@ -121,10 +121,10 @@ inside buffer at n = leb (at + n) (length buffer)
 unfoldable pub featureInside : List ℕ → FeatureRow → Bool
 featureInside buffer f = inside buffer (f .at) (f .len)
 
-unfoldable pub entryInside : Lent → EntryRow → Bool
-entryInside l r =
-    inside (l .buffer) (r .agentat) (r .agentlen)
-    && (inside (l .buffer) (r .nameat) (r .namelen)
-    && ((eqb (r .addrlen) 0 || inside (l .buffer) (r .addrat) (r .addrlen - 4))
-    && (leb (r .first + r .count) (length (l .features) / featureRowSize)
-    && every (featureInside (l .buffer)) (ownRows l r))))
+unfoldable pub entryInside : Tables → EntryRow → Bool
+entryInside ts r =
+    inside (ts .buffer) (r .agentat) (r .agentlen)
+    && (inside (ts .buffer) (r .nameat) (r .namelen)
+    && ((eqb (r .addrlen) 0 || inside (ts .buffer) (r .addrat) (r .addrlen - 4))
+    && (leb (r .first + r .count) (length (ts .features) / featureRowSize)
+    && every (featureInside (ts .buffer)) (ownRows ts r))))

@@ -15,7 +15,7 @@ use Rattle.wire.specs.Numbers.{lt-or-ge}
 use Rattle.handshake.specs.Value.{AddressTyped}
 use Rattle.handshake.specs.AddressLaws.{addressOf-typed}
 use Rattle.handshake.specs.declared.EntryRow.{EntryRow}
-use Rattle.handshake.specs.Tables.{rows, featureRowSize, entryRowSize, entryRow, Lent, entryRows, featureRows, ownRows, bytesAt, entryOf, wholeRows, featureNumbers, entryNumbers, tablesWhole, inside, featureInside, entryInside}
+use Rattle.handshake.specs.Tables.{rows, featureRowSize, entryRowSize, entryRow, Tables, entryRows, featureRows, ownRows, bytesAt, entryFromRow, wholeRows, featureNumbers, entryNumbers, tablesWhole, inside, featureInside, entryInside}
 use Rattle.handshake.specs.Writes.{rowInside}
 
 -- a part inside the buffer
@@ -34,7 +34,7 @@ every-row test f (suc n) i k h g l =
     (λ (m : k ≤ i). let e : k ≡ i = omega arith in rw e (b .0))
     (lt-or-ge i k)
 
-module _ (l : Lent) (whole : tablesWhole l ≡ true) where
+module _ (l : Tables) (whole : tablesWhole l ≡ true) where
   whole-rows : (every entryNumbers (entryRows l) ≡ true) × (every featureNumbers (featureRows l) ≡ true)
   unfolding tablesWhole
   whole-rows =
@@ -87,14 +87,14 @@ numbers-of r h =
     }
 
 -- what 12 says of a row's parts
-pub record PartsInside (l : Lent) (r : EntryRow) : Type 0 where
+pub record PartsInside (l : Tables) (r : EntryRow) : Type 0 where
   pub agent : inside (l .buffer) (r .agentat) (r .agentlen) ≡ true
   pub name : inside (l .buffer) (r .nameat) (r .namelen) ≡ true
   pub address : (eqb (r .addrlen) 0 || inside (l .buffer) (r .addrat) (r .addrlen - 4)) ≡ true
   pub range : leb (r .first + r .count) (length (l .features) / featureRowSize) ≡ true
   pub features : every (featureInside (l .buffer)) (ownRows l r) ≡ true
 
-pub parts-inside : (l : Lent) (r : EntryRow) → entryInside l r ≡ true → PartsInside l r
+pub parts-inside : (l : Tables) (r : EntryRow) → entryInside l r ≡ true → PartsInside l r
 unfolding entryInside
 parts-inside l r h =
     let a = and-true (inside (l .buffer) (r .agentat) (r .agentlen)) _ h in
@@ -103,11 +103,11 @@ parts-inside l r h =
     let e = and-true (leb (r .first + r .count) (length (l .features) / featureRowSize)) (every (featureInside (l .buffer)) (ownRows l r)) (d .1) in
     record { agent = a .0; name = b .0; address = d .0; range = e .0; features = e .1 }
 
-pub own-range : (l : Lent) (r : EntryRow) → entryInside l r ≡ true → r .first + r .count ≤ length (l .features) / featureRowSize
+pub own-range : (l : Tables) (r : EntryRow) → entryInside l r ≡ true → r .first + r .count ≤ length (l .features) / featureRowSize
 own-range l r h = leb-true (r .first + r .count) (length (l .features) / featureRowSize) (parts-inside l r h .range)
 
 -- the address of a row
-module _ (l : Lent) (r : EntryRow) (numbers : entryNumbers r ≡ true) (parts : entryInside l r ≡ true) where
+module _ (l : Tables) (r : EntryRow) (numbers : entryNumbers r ≡ true) (parts : entryInside l r ≡ true) where
   -- with L = 0 it has no bytes
   address-long : length (bytesAt (l .buffer) (r .addrat) (r .addrlen - 4)) ≡ r .addrlen - 4
   address-long =
@@ -116,8 +116,8 @@ module _ (l : Lent) (r : EntryRow) (numbers : entryNumbers r ≡ true) (parts : 
       (λ x. length-bytesAt (l .buffer) (r .addrat) (r .addrlen - 4) x)
       (or-true (eqb (r .addrlen) 0) _ (parts-inside l r parts .address))
 
-  pub row-address : every isByte (l .buffer) ≡ true → AddressTyped (entryOf l r .address)
-  unfolding entryOf
+  pub row-address : every isByte (l .buffer) ≡ true → AddressTyped (entryFromRow l r .address)
+  unfolding entryFromRow
   row-address typed =
       addressOf-typed (r .addrlen) (bytesAt (l .buffer) (r .addrat) (r .addrlen - 4)) (r .port)
       (every-take isByte (r .addrlen - 4) (drop (r .addrat) (l .buffer)) (every-drop isByte (r .addrat) (l .buffer) typed)) address-long (numbers-of r numbers .port)

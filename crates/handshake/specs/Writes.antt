@@ -16,32 +16,32 @@ use Rattle.types.specs.declared.Version.{Version}
 use Rattle.types.specs.declared.Address.{Address}
 use Rattle.types.specs.Magic.{magicOf}
 use Rattle.handshake.specs.Value.{FeatureValue, EntryValue, HandshakeValue, entryBytes, handshakeBytes, entriesAsked}
-use Rattle.handshake.specs.Tables.{entryRowSize, Lent, entryRow, entryOf, tablesWhole, entryInside}
+use Rattle.handshake.specs.Tables.{entryRowSize, Tables, entryRow, entryFromRow, tablesWhole, entryInside}
 
 -- ---- from a row of a table
 
 -- the value of row k
-abbrev pub entryAt : Lent → ℕ → EntryValue
-entryAt l k = entryOf l (entryRow (l .entries) k)
+abbrev pub entryAtRow : Tables → ℕ → EntryValue
+entryAtRow ts k = entryFromRow ts (entryRow (ts .entries) k)
 
 -- 12: is the row in its table, and is all that it names inside?
-unfoldable pub rowInside : Lent → ℕ → Bool
-rowInside l k = ltb k (length (l .entries) / entryRowSize) && entryInside l (entryRow (l .entries) k)
+unfoldable pub rowInside : Tables → ℕ → Bool
+rowInside ts k = ltb k (length (ts .entries) / entryRowSize) && entryInside ts (entryRow (ts .entries) k)
 
 -- the questions after the place's, of the one entry in row k
-abbrev pub rowAsked : Lent → ℕ → List Question
-rowAsked l k = ask 12 (rowInside l k) ∷ entriesAsked (entryAt l k ∷ [])
+abbrev pub rowAsked : Tables → ℕ → List Question
+rowAsked ts k = ask 12 (rowInside ts k) ∷ entriesAsked (entryAtRow ts k ∷ [])
 
-unfoldable pub entryWritten : Lent → ℕ → List ℕ → ℕ → Written
-entryWritten l k out at = written (ask 16 (tablesWhole l) ∷ []) (rowAsked l k) out at (entryBytes (entryAt l k))
+unfoldable pub entryWritten : Tables → ℕ → List ℕ → ℕ → Written
+entryWritten ts k out at = written (ask 16 (tablesWhole ts) ∷ []) (rowAsked ts k) out at (entryBytes (entryAtRow ts k))
 
 -- a timestamp with the entry in row k
-abbrev pub handshakeAt : ℕ → Lent → ℕ → HandshakeValue
-handshakeAt timestamp l k = record { timestamp = timestamp; entry = entryAt l k }
+abbrev pub handshakeAtRow : ℕ → Tables → ℕ → HandshakeValue
+handshakeAtRow timestamp ts k = record { timestamp = timestamp; entry = entryAtRow ts k }
 
-unfoldable pub handshakeWritten : ℕ → Lent → ℕ → List ℕ → ℕ → Written
-handshakeWritten timestamp l k out at =
-    written (ask 16 (tablesWhole l) ∷ []) (rowAsked l k) out at (handshakeBytes (handshakeAt timestamp l k))
+unfoldable pub handshakeWritten : ℕ → Tables → ℕ → List ℕ → ℕ → Written
+handshakeWritten timestamp ts k out at =
+    written (ask 16 (tablesWhole ts) ∷ []) (rowAsked ts k) out at (handshakeBytes (handshakeAtRow timestamp ts k))
 
 -- ---- `build`
 

@@ -21,9 +21,9 @@ configOf c agent name =
     record {
       network = c .network;
       mode = c .mode;
-      stateType = c .statetype;
+      stateType = c .«state_type_id»;
       verifying = c .verifying;
-      blocksToKeep = c .blocks;
+      blocksToKeep = c .«blocks_to_keep»;
       agent = agent;
       version = c .version;
       name = name;
@@ -46,12 +46,12 @@ pub record BuildReady (agent name : List ℕ) : Type 0 where
   pub utfname : utf8 name ≡ true
 
 -- timestamp, agent, version and name
-unfoldable pub headBytes : Config → List ℕ → List ℕ → List ℕ
-headBytes c agent name = vlqBytes (c .timestamp) ++ (shortStringBytes agent ++ (versionBytes (c .version) ++ shortStringBytes name))
+unfoldable pub beforeAddressBytes : Config → List ℕ → List ℕ → List ℕ
+beforeAddressBytes c agent name = vlqBytes (c .timestamp) ++ (shortStringBytes agent ++ (versionBytes (c .version) ++ shortStringBytes name))
 
 -- the two features
-unfoldable pub modeBytes : Config → List ℕ
-modeBytes c = featureBytes (modeFeatureOf (c .mode) (c .statetype) (c .verifying) (c .blocks))
+unfoldable pub modeFeatureBytes : Config → List ℕ
+modeFeatureBytes c = featureBytes (modeFeatureOf (c .mode) (c .«state_type_id») (c .verifying) (c .«blocks_to_keep»))
 
-unfoldable pub sessionBytes : Config → List ℕ
-sessionBytes c = featureBytes (sessionFeatureOf (c .network) (c .session))
+unfoldable pub sessionFeatureBytes : Config → List ℕ
+sessionFeatureBytes c = featureBytes (sessionFeatureOf (c .network) (c .session))

@@ -24,7 +24,7 @@ use Rattle.wire_output.specs.Asked.{writtenFor, outputAsked}
 use Rattle.wire_output.specs.AskedLaws.{Without16, output-rest}
 use Rattle.handshake_features_write.specs.Features.{modeFeatureOf, sessionFeatureOf}
 use Rattle.handshake_build.specs.declared.Config.{Config}
-use Rattle.handshake_build.specs.Parts.{configOf, builtSize, BuildReady, headBytes, modeBytes, sessionBytes}
+use Rattle.handshake_build.specs.Parts.{configOf, builtSize, BuildReady, beforeAddressBytes, modeFeatureBytes, sessionFeatureBytes}
 
 -- a writer whose questions hold and that has room ends at e, the place after its bytes
 pub wrote-end : (before after : List Question) (out : List ℕ) (at : ℕ) (bs : List ℕ) (e : ℕ) {r : Written} {last : List ℕ}
@@ -54,16 +54,16 @@ unfolding featureBytes
 body-within f = omega (arith, length-append (vlqBytes (length (f .body))) (f .body))
 
 module _ (c : Config) (agent name : List ℕ) where
-  pub built-parts : handshakeBytes (built (configOf c agent name)) ≡ headBytes c agent name ++ (addressBytes (c .address) ++ (2 ∷ (modeBytes c ++ sessionBytes c)))
-  unfolding handshakeBytes entryBytes built headBytes flatMap modeFeature sessionFeature modeFeatureOf sessionFeatureOf modeBytes sessionBytes
+  pub built-parts : handshakeBytes (built (configOf c agent name)) ≡ beforeAddressBytes c agent name ++ (addressBytes (c .address) ++ (2 ∷ (modeFeatureBytes c ++ sessionFeatureBytes c)))
+  unfolding handshakeBytes entryBytes built beforeAddressBytes flatMap modeFeature sessionFeature modeFeatureOf sessionFeatureOf modeFeatureBytes sessionFeatureBytes
   built-parts =
       ap
-      (λ (l : List ℕ). vlqBytes (c .timestamp) ++ (shortStringBytes agent ++ (versionBytes (c .version) ++ (shortStringBytes name ++ (addressBytes (c .address) ++ (2 ∷ (modeBytes c ++ l)))))))
-      (append-nil (sessionBytes c))
-      ∙ sym (regroup (vlqBytes (c .timestamp)) (shortStringBytes agent) (versionBytes (c .version)) (shortStringBytes name) (addressBytes (c .address) ++ (2 ∷ (modeBytes c ++ sessionBytes c))))
+      (λ (l : List ℕ). vlqBytes (c .timestamp) ++ (shortStringBytes agent ++ (versionBytes (c .version) ++ (shortStringBytes name ++ (addressBytes (c .address) ++ (2 ∷ (modeFeatureBytes c ++ l)))))))
+      (append-nil (sessionFeatureBytes c))
+      ∙ sym (regroup (vlqBytes (c .timestamp)) (shortStringBytes agent) (versionBytes (c .version)) (shortStringBytes name) (addressBytes (c .address) ++ (2 ∷ (modeFeatureBytes c ++ sessionFeatureBytes c))))
 
-  pub length-head : length (headBytes c agent name) ≡ length (vlqBytes (c .timestamp)) + (5 + length agent + length name)
-  unfolding headBytes versionBytes
+  pub length-head : length (beforeAddressBytes c agent name) ≡ length (vlqBytes (c .timestamp)) + (5 + length agent + length name)
+  unfolding beforeAddressBytes versionBytes
   length-head =
       omega (
         arith,
@@ -73,20 +73,20 @@ module _ (c : Config) (agent name : List ℕ) where
       )
 
   pub length-built : length (handshakeBytes (built (configOf c agent name)))
-      ≡ length (headBytes c agent name) + length (addressBytes (c .address)) + (1 + length (modeBytes c) + length (sessionBytes c))
+      ≡ length (beforeAddressBytes c agent name) + length (addressBytes (c .address)) + (1 + length (modeFeatureBytes c) + length (sessionFeatureBytes c))
   length-built =
       omega (
         arith,
         ap length built-parts,
-        length-append (headBytes c agent name) (addressBytes (c .address) ++ (2 ∷ (modeBytes c ++ sessionBytes c))),
-        length-append (addressBytes (c .address)) (2 ∷ (modeBytes c ++ sessionBytes c)),
-        length-append (modeBytes c) (sessionBytes c),
+        length-append (beforeAddressBytes c agent name) (addressBytes (c .address) ++ (2 ∷ (modeFeatureBytes c ++ sessionFeatureBytes c))),
+        length-append (addressBytes (c .address)) (2 ∷ (modeFeatureBytes c ++ sessionFeatureBytes c)),
+        length-append (modeFeatureBytes c) (sessionFeatureBytes c),
       )
 
   -- once the strings are accepted, every question is answered "yes"
-  pub built-bytes : length (modeBytes c) ≤ 16 → length (sessionBytes c) ≤ 16 → BuildReady agent name
+  pub built-bytes : length (modeFeatureBytes c) ≤ 16 → length (sessionFeatureBytes c) ≤ 16 → BuildReady agent name
       → builtSize (configOf c agent name) ≡ Bytes (length (handshakeBytes (built (configOf c agent name))))
-  unfolding builtSize entriesAsked sized every shortStrings utf8Strings fewFeatures lengthsWithin built modeFeature sessionFeature modeFeatureOf sessionFeatureOf modeBytes sessionBytes
+  unfolding builtSize entriesAsked sized every shortStrings utf8Strings fewFeatures lengthsWithin built modeFeature sessionFeature modeFeatureOf sessionFeatureOf modeFeatureBytes sessionFeatureBytes
   built-bytes mode session ready =
       let m = modeFeature (configOf c agent name) in
       let s = sessionFeature (configOf c agent name) in

@@ -9,7 +9,7 @@ ghost use Rattle.vlq.specs.Vlq.{vlqBytes};
 ghost use Rattle.vlq.specs.ShortString.{maxShortString};
 ghost use Rattle.handshake.specs.Value.{AddressTyped, addressBytes, versionBytes, handshakeBytes};
 ghost use Rattle.handshake.specs.Writes.{built, builtWritten};
-ghost use Rattle.handshake_build.specs.Parts.{configOf, builtSize, BuildReady, headBytes, modeBytes, sessionBytes};
+ghost use Rattle.handshake_build.specs.Parts.{configOf, builtSize, BuildReady, beforeAddressBytes, modeFeatureBytes, sessionFeatureBytes};
 use handshake_address_write::address_len;
 use handshake_address_write::write_address;
 use handshake_features_write::mode_len;
@@ -33,9 +33,9 @@ use wire_output::ask_output;
 pub struct Config {
     pub network: Network,
     pub mode: ProxyMode,
-    pub statetype: u8,
+    pub state_type_id: u8,
     pub verifying: bool,
-    pub blocks: i32,
+    pub blocks_to_keep: i32,
     pub version: Version,
     pub address: Address,
     pub timestamp: u64,
@@ -79,12 +79,14 @@ fn build_size(config: Config, agent: &[u8], name: &[u8]) -> Size
 // How many bytes a handshake with strings of a and n bytes has.
 fn build_len(config: Config, a: usize, n: usize) -> usize
     requires { ⌜ (a ≤ maxShortString) × (n ≤ maxShortString) ⌝ }
-    ensures { λ r. ⌜ (r ≡ length (vlqBytes (config .timestamp)) + (5 + a + n) + length (addressBytes (config .address)) + (1 + length (modeBytes config) + length (sessionBytes config))) × (length (modeBytes config) ≤ 16) × (length (sessionBytes config) ≤ 16) ⌝ }
+    ensures { λ r. ⌜ (r ≡ length (vlqBytes (config .timestamp)) + (5 + a + n) + length (addressBytes (config .address)) + (1 + length (modeFeatureBytes config) + length (sessionFeatureBytes config))) × (length (modeFeatureBytes config) ≤ 16) × (length (sessionFeatureBytes config) ≤ 16) ⌝ }
 {
     let address = config.address;
     let mode = config.mode;
     let head = vlq_len(config.timestamp) + (5 + a + n);
-    head + address_len(address) + (1 + mode_len(mode, config.blocks) + session_len(config.session))
+    head
+        + address_len(address)
+        + (1 + mode_len(mode, config.blocks_to_keep) + session_len(config.session))
 }
 
 // ---- storing
@@ -103,8 +105,8 @@ fn put_build(out: &mut [u8], at: usize, config: Config, agent: &[u8], name: &[u8
 // Timestamp, agent, version and name.
 fn put_head(out: &mut [u8], at: usize, config: Config, agent: &[u8], name: &[u8]) -> usize
     requires { ⌜ BuildReady (now agent) (now name) ⌝ }
-    requires { ⌜ at + length (headBytes config (now agent) (now name)) ≤ length (now out) ⌝ }
-    ensures { λ r. ⌜ Wrote (now (out .entry)) at (headBytes config (now (agent .entry)) (now (name .entry))) r (now (out .exit)) ⌝ }
+    requires { ⌜ at + length (beforeAddressBytes config (now agent) (now name)) ≤ length (now out) ⌝ }
+    ensures { λ r. ⌜ Wrote (now (out .entry)) at (beforeAddressBytes config (now (agent .entry)) (now (name .entry))) r (now (out .exit)) ⌝ }
 {
     let version = config.version;
     write_vlq(out, at, config.timestamp);
@@ -127,8 +129,8 @@ fn put_version(out: &mut [u8], at: usize, version: Version) -> usize
 
 // How many features there are, Mode and Session.
 fn put_features(out: &mut [u8], at: usize, config: Config)
-    requires { ⌜ at + (1 + length (modeBytes config) + length (sessionBytes config)) ≤ length (now out) ⌝ }
-    ensures { λ _. ⌜ now (out .exit) ≡ put (now (out .entry)) at (2 ∷ (modeBytes config ++ sessionBytes config)) ⌝ }
+    requires { ⌜ at + (1 + length (modeFeatureBytes config) + length (sessionFeatureBytes config)) ≤ length (now out) ⌝ }
+    ensures { λ _. ⌜ now (out .exit) ≡ put (now (out .entry)) at (2 ∷ (modeFeatureBytes config ++ sessionFeatureBytes config)) ⌝ }
 {
     let network = config.network;
     let mode = config.mode;
@@ -137,10 +139,10 @@ fn put_features(out: &mut [u8], at: usize, config: Config)
         out,
         at + 1,
         mode,
-        config.statetype,
+        config.state_type_id,
         config.verifying,
-        config.blocks,
+        config.blocks_to_keep,
     );
-    let end = at + 1 + mode_len(mode, config.blocks);
+    let end = at + 1 + mode_len(mode, config.blocks_to_keep);
     write_session(out, end, network, config.session);
 }

@@ -15,7 +15,7 @@ use Rattle.handshake.specs.declared.FeatureRow.{FeatureRow}
 use Rattle.handshake.specs.declared.EntryRow.{EntryRow}
 use Rattle.handshake.specs.Entry.{addressOf}
 use Rattle.handshake.specs.Value.{featureBytes, versionBytes, addressBytes, entryBytes, lengthsWithin}
-use Rattle.handshake.specs.Tables.{Lent, lent, rows, featureRow, ownRows, bytesAt, featureOf, entryOf}
+use Rattle.handshake.specs.Tables.{Tables, tables, rows, featureRow, ownRows, bytesAt, featureFromRow, entryFromRow}
 use Rattle.handshake.specs.RowsLaws.{length-rows, rows-from}
 use Rattle.handshake_entry_ask.specs.Asked.{headBytes}
 
@@ -50,8 +50,8 @@ module _ (bytes : List ℕ) (port : ℕ) where
 -- ---- a feature and an entry
 
 pub length-feature : (buffer : List ℕ) (f : FeatureRow)
-    → let n = length (bytesAt buffer (f .at) (f .len)) in length (featureBytes (featureOf buffer f)) ≡ 1 + length (vlqBytes n) + n
-unfolding featureBytes featureOf
+    → let n = length (bytesAt buffer (f .at) (f .len)) in length (featureBytes (featureFromRow buffer f)) ≡ 1 + length (vlqBytes n) + n
+unfolding featureBytes featureFromRow
 length-feature buffer f =
     let b = bytesAt buffer (f .at) (f .len) in
     omega (arith, length-append (vlqBytes (length b)) b)
@@ -61,28 +61,28 @@ unfoldable pub bodyWithin : List ℕ → FeatureRow → Bool
 bodyWithin buffer f = leb (length (bytesAt buffer (f .at) (f .len))) limit
 
 pub within-rows : (features buffer : List ℕ) (r : EntryRow)
-    → lengthsWithin (entryOf (lent [] features buffer) r) ≡ every (bodyWithin buffer) (rows (λ i. featureRow features (r .first + i)) 0 (r .count))
-unfolding lengthsWithin entryOf featureOf bodyWithin
+    → lengthsWithin (entryFromRow (tables [] features buffer) r) ≡ every (bodyWithin buffer) (rows (λ i. featureRow features (r .first + i)) 0 (r .count))
+unfolding lengthsWithin entryFromRow featureFromRow bodyWithin
 within-rows features buffer r =
-    every-map (λ f. leb (length (f .body)) limit) (featureOf buffer) (rows (featureRow features) (r .first) (r .count))
+    every-map (λ f. leb (length (f .body)) limit) (featureFromRow buffer) (rows (featureRow features) (r .first) (r .count))
     ∙ ap (every (bodyWithin buffer)) (sym (rows-from (featureRow features) (r .first) (r .count)))
 
 -- the bytes of an entry: its head, its address, its features
-module _ (l : Lent) (r : EntryRow) where
+module _ (l : Tables) (r : EntryRow) where
   abbrev pub addr : List ℕ
   addr = addressBytes (addressOf (r .addrlen) (bytesAt (l .buffer) (r .addrat) (r .addrlen - 4)) (r .port))
 
   abbrev pub own : List ℕ
-  own = flatMap featureBytes (map (featureOf (l .buffer)) (ownRows l r))
+  own = flatMap featureBytes (map (featureFromRow (l .buffer)) (ownRows l r))
 
-  pub entry-parts : entryBytes (entryOf l r) ≡ headBytes (l .buffer) r ++ (addr ++ (r .count ∷ own))
-  unfolding entryBytes entryOf headBytes versionBytes
+  pub entry-parts : entryBytes (entryFromRow l r) ≡ headBytes (l .buffer) r ++ (addr ++ (r .count ∷ own))
+  unfolding entryBytes entryFromRow headBytes versionBytes
   entry-parts =
-      let count : length (map (featureOf (l .buffer)) (ownRows l r)) ≡ r .count =
-      length-map (ownRows l r) (featureOf (l .buffer)) ∙ length-rows (featureRow (l .features)) (r .first) (r .count) in
+      let count : length (map (featureFromRow (l .buffer)) (ownRows l r)) ≡ r .count =
+      length-map (ownRows l r) (featureFromRow (l .buffer)) ∙ length-rows (featureRow (l .features)) (r .first) (r .count) in
       rw (count, append-assoc)
 
-  pub length-entry : length (entryBytes (entryOf l r)) ≡ length (headBytes (l .buffer) r) + length addr + 1 + length own
+  pub length-entry : length (entryBytes (entryFromRow l r)) ≡ length (headBytes (l .buffer) r) + length addr + 1 + length own
   length-entry =
       omega (arith, ap length entry-parts, length-append (headBytes (l .buffer) r) (addr ++ (r .count ∷ own)), length-append addr (r .count ∷ own))
 

@@ -12,8 +12,8 @@ ghost use Rattle.wire.specs.Earliest.{position, earlier, together};
 ghost use Rattle.vlq.specs.Vlq.{limit, vlqBytes};
 ghost use Rattle.handshake.specs.Entry.{addressOf};
 ghost use Rattle.handshake.specs.Value.{addressBytes, featureBytes, shortStrings, utf8Strings, lengthsWithin};
-ghost use Rattle.handshake.specs.Tables.{lent, rows, featureRow, entryRows, bytesAt, featureOf, entryOf, featureInside, entryInside};
-ghost use Rattle.handshake_entry_ask.specs.Asked.{rowSize, entrySize, entriesSize, sizeOf, rowNumbers, counted, bodySize};
+ghost use Rattle.handshake.specs.Tables.{tables, rows, featureRow, entryRows, bytesAt, featureFromRow, entryFromRow, featureInside, entryInside};
+ghost use Rattle.handshake_entry_ask.specs.Asked.{rowSize, entrySize, entriesSize, sizeOf, rowNumbers, countedToLimit, bodySize};
 use handshake::ENTRY_ROW_SIZE;
 use handshake::EntryRow;
 use handshake::FEATURE_ROW_SIZE;
@@ -31,7 +31,7 @@ use wire::Size;
 
 // Of the entry in row k. 16 is asked of every row of both tables.
 pub fn ask_entry(entries: &[u32], features: &[u32], buffer: &[u8], k: usize) -> Size
-    ensures { λ r. ⌜ r ≡ entrySize (lent (now (entries .entry)) (now (features .entry)) (now (buffer .entry))) k ⌝ }
+    ensures { λ r. ⌜ r ≡ entrySize (tables (now (entries .entry)) (now (features .entry)) (now (buffer .entry))) k ⌝ }
 {
     if !tables_whole(entries, features) {
         return Size::Refused(16);
@@ -44,7 +44,7 @@ pub fn ask_entry(entries: &[u32], features: &[u32], buffer: &[u8], k: usize) -> 
 
 // Of all entries of the table, the end of a body that has `before` bytes before them: each question over all rows before the next.
 pub fn ask_entries(before: usize, entries: &[u32], features: &[u32], buffer: &[u8]) -> Size
-    ensures { λ r. ⌜ r ≡ entriesSize (lent (now (entries .entry)) (now (features .entry)) (now (buffer .entry))) before ⌝ }
+    ensures { λ r. ⌜ r ≡ entriesSize (tables (now (entries .entry)) (now (features .entry)) (now (buffer .entry))) before ⌝ }
 {
     if !tables_whole(entries, features) {
         return Size::Refused(16);
@@ -72,7 +72,7 @@ fn ask_body(before: usize, size: Size) -> Size
 
 // Of all rows after 16, their bytes counted up to MAX_BODY_SIZE + 1.
 fn ask_rows(entries: &[u32], features: &[u32], buffer: &[u8]) -> Size
-    ensures { λ r. ⌜ r ≡ counted (sizeOf (lent (now (entries .entry)) (now (features .entry)) (now (buffer .entry))) (entryRows (lent (now (entries .entry)) (now (features .entry)) (now (buffer .entry))))) ⌝ }
+    ensures { λ r. ⌜ r ≡ countedToLimit (sizeOf (tables (now (entries .entry)) (now (features .entry)) (now (buffer .entry))) (entryRows (tables (now (entries .entry)) (now (features .entry)) (now (buffer .entry))))) ⌝ }
 {
     let n = entries.len() / ENTRY_ROW_SIZE;
     let mut size = Size::Bytes(0);
@@ -86,7 +86,7 @@ fn ask_rows(entries: &[u32], features: &[u32], buffer: &[u8]) -> Size
 
 // Adds what is said of a row to what is said of the rows before it.
 fn add_row(size: Size, own: Size) -> Size
-    ensures { λ r. ⌜ r ≡ counted (together rowNumbers size own) ⌝ }
+    ensures { λ r. ⌜ r ≡ countedToLimit (together rowNumbers size own) ⌝ }
 {
     match size {
         Size::Bytes(m) => match own {
@@ -159,7 +159,7 @@ pub fn ask_row(features: &[u32], buffer: &[u8], e: EntryRow) -> Size
 
 // Is each part that a row names inside the buffer, and each feature row inside its table (question 12)?
 fn row_inside(features: &[u32], buffer: &[u8], e: EntryRow) -> bool
-    ensures { λ r. ⌜ r ≡ entryInside (lent [] (now (features .entry)) (now (buffer .entry))) e ⌝ }
+    ensures { λ r. ⌜ r ≡ entryInside (tables [] (now (features .entry)) (now (buffer .entry))) e ⌝ }
 {
     if !is_inside(buffer.len(), e.agentat, e.agentlen) {
         return false;
@@ -214,7 +214,7 @@ fn features_inside(features: &[u32], buffer: &[u8], e: EntryRow) -> bool
 // Have agent and name at most 255 bytes (question 13)?
 fn strings_short(buffer: &[u8], e: EntryRow) -> bool
     requires { ⌜ (e .agentat + e .agentlen ≤ length (now buffer)) × (e .nameat + e .namelen ≤ length (now buffer)) ⌝ }
-    ensures { λ r. ⌜ r ≡ shortStrings (entryOf (lent [] [] (now (buffer .entry))) e) ⌝ }
+    ensures { λ r. ⌜ r ≡ shortStrings (entryFromRow (tables [] [] (now (buffer .entry))) e) ⌝ }
 {
     let agent = part_of(buffer, e.agentat, e.agentlen);
     if MAX_SHORT_STRING < agent.len() {
@@ -227,7 +227,7 @@ fn strings_short(buffer: &[u8], e: EntryRow) -> bool
 // Are agent and name UTF-8 (question 4)?
 fn strings_utf8(buffer: &[u8], e: EntryRow) -> bool
     requires { ⌜ (e .agentat + e .agentlen ≤ length (now buffer)) × (e .nameat + e .namelen ≤ length (now buffer)) ⌝ }
-    ensures { λ r. ⌜ r ≡ utf8Strings (entryOf (lent [] [] (now (buffer .entry))) e) ⌝ }
+    ensures { λ r. ⌜ r ≡ utf8Strings (entryFromRow (tables [] [] (now (buffer .entry))) e) ⌝ }
 {
     if !vlq_utf8::is_utf8(part_of(buffer, e.agentat, e.agentlen)) {
         return false;
@@ -252,7 +252,7 @@ fn address_len(e: EntryRow) -> usize
 fn features_size(before: usize, features: &[u32], buffer: &[u8], e: EntryRow) -> Size
     requires { ⌜ (before ≤ 1000) × (e .count ≤ 255) × (e .first + e .count ≤ length (now features) / 3) ⌝ }
     requires { ⌜ every (featureInside (now buffer)) (rows (featureRow (now features)) (e .first) (e .count)) ≡ true ⌝ }
-    ensures { λ r. ⌜ r ≡ sized (ask 3 (lengthsWithin (entryOf (lent [] (now (features .entry)) (now (buffer .entry))) e)) ∷ []) (before + length (flatMap featureBytes (map (featureOf (now (buffer .entry))) (rows (featureRow (now (features .entry))) (e .first) (e .count))))) ⌝ }
+    ensures { λ r. ⌜ r ≡ sized (ask 3 (lengthsWithin (entryFromRow (tables [] (now (features .entry)) (now (buffer .entry))) e)) ∷ []) (before + length (flatMap featureBytes (map (featureFromRow (now (buffer .entry))) (rows (featureRow (now (features .entry))) (e .first) (e .count))))) ⌝ }
 {
     let first = e.first as usize;
     let count = e.count as usize;

@@ -11,7 +11,7 @@ use borrow.Author.Tests.{lt-ltb, leb-true}
 use Rattle.wire.specs.Bytes.{every}
 use Rattle.handshake.specs.declared.EntryRow.{EntryRow}
 use Rattle.handshake.specs.Value.{shortStrings, utf8Strings, fewFeatures}
-use Rattle.handshake.specs.Tables.{Lent, lent, rows, entryRow, featureRow, ownRows, featureOf, entryOf, tablesWhole, inside, featureInside, entryInside}
+use Rattle.handshake.specs.Tables.{Tables, tables, rows, entryRow, featureRow, ownRows, featureFromRow, entryFromRow, tablesWhole, inside, featureInside, entryInside}
 use Rattle.handshake.specs.TablesLaws.{every-row, parts-inside}
 use Rattle.handshake.specs.RowsLaws.{length-rows}
 use Rattle.handshake_entry_rows.specs.Row.{rowOrZeros}
@@ -20,37 +20,37 @@ pub row-there : (t : List ℕ) (k : ℕ) → k < length t / 12 → rowOrZeros t 
 unfolding rowOrZeros
 row-there t k h = rw (lt-ltb k (length t / 12) h)
 
-pub own-whole : (l : Lent) → tablesWhole (lent (l .entries) (l .features) []) ≡ tablesWhole l
+pub own-whole : (l : Tables) → tablesWhole (tables (l .entries) (l .features) []) ≡ tablesWhole l
 unfolding tablesWhole
 own-whole l = refl
 
-pub own-entry : (l : Lent) (r : EntryRow) → entryOf (lent [] (l .features) (l .buffer)) r ≡ entryOf l r
-unfolding entryOf
+pub own-entry : (l : Tables) (r : EntryRow) → entryFromRow (tables [] (l .features) (l .buffer)) r ≡ entryFromRow l r
+unfolding entryFromRow
 own-entry l r = refl
 
-pub own-inside : (l : Lent) (r : EntryRow) → entryInside (lent [] (l .features) (l .buffer)) r ≡ entryInside l r
+pub own-inside : (l : Tables) (r : EntryRow) → entryInside (tables [] (l .features) (l .buffer)) r ≡ entryInside l r
 unfolding entryInside
 own-inside l r = refl
 
-pub length-features : (l : Lent) (r : EntryRow) → length (entryOf l r .features) ≡ r .count
-unfolding entryOf
-length-features l r = length-map (ownRows l r) (featureOf (l .buffer)) ∙ length-rows (featureRow (l .features)) (r .first) (r .count)
+pub length-features : (l : Tables) (r : EntryRow) → length (entryFromRow l r .features) ≡ r .count
+unfolding entryFromRow
+length-features l r = length-map (ownRows l r) (featureFromRow (l .buffer)) ∙ length-rows (featureRow (l .features)) (r .first) (r .count)
 
-pub own-short : (l : Lent) (r : EntryRow) → shortStrings (entryOf (lent [] [] (l .buffer)) r) ≡ shortStrings (entryOf l r)
-unfolding shortStrings entryOf
+pub own-short : (l : Tables) (r : EntryRow) → shortStrings (entryFromRow (tables [] [] (l .buffer)) r) ≡ shortStrings (entryFromRow l r)
+unfolding shortStrings entryFromRow
 own-short l r = refl
 
-pub own-utf8 : (l : Lent) (r : EntryRow) → utf8Strings (entryOf (lent [] [] (l .buffer)) r) ≡ utf8Strings (entryOf l r)
-unfolding utf8Strings entryOf
+pub own-utf8 : (l : Tables) (r : EntryRow) → utf8Strings (entryFromRow (tables [] [] (l .buffer)) r) ≡ utf8Strings (entryFromRow l r)
+unfolding utf8Strings entryFromRow
 own-utf8 l r = refl
 
-pub few-count : (l : Lent) (r : EntryRow) → fewFeatures (entryOf l r) ≡ leb (r .count) 255
+pub few-count : (l : Tables) (r : EntryRow) → fewFeatures (entryFromRow l r) ≡ leb (r .count) 255
 unfolding fewFeatures
 few-count l r = ap (λ (n : ℕ). leb n 255) (length-features l r)
 
 -- ---- the parts of a row that is inside
 
-module _ (l : Lent) (r : EntryRow) (parts : entryInside l r ≡ true) where
+module _ (l : Tables) (r : EntryRow) (parts : entryInside l r ≡ true) where
   pub agent-part : r .agentat + r .agentlen ≤ length (l .buffer)
   unfolding inside
   agent-part = leb-true (r .agentat + r .agentlen) (length (l .buffer)) (parts-inside l r parts .agent)

@@ -4,7 +4,7 @@ ghost use mathlib.Core.List.{[]};
 ghost use Prim.Native.Nat.{_+_, _-_, _*_, _/_, _≤_};
 ghost use lib.ListN.{length};
 ghost use Rattle.wire.specs.Bytes.{every};
-ghost use Rattle.handshake.specs.Tables.{lent, rows, featureRow, entryRow, featureNumbers, entryNumbers, tablesWhole};
+ghost use Rattle.handshake.specs.Tables.{tables, rows, featureRow, entryRow, featureNumbers, entryNumbers, tablesWhole};
 ghost use Rattle.handshake_entry_rows.specs.Row.{rowOrZeros};
 use handshake::ENTRY_ROW_SIZE;
 use handshake::EntryRow;
@@ -67,7 +67,7 @@ pub fn address_size(l: u32) -> u32
 
 // Has each table whole rows, with numbers as they should be (question 16)?
 pub fn tables_whole(entries: &[u32], features: &[u32]) -> bool
-    ensures { λ r. ⌜ r ≡ tablesWhole (lent (now (entries .entry)) (now (features .entry)) []) ⌝ }
+    ensures { λ r. ⌜ r ≡ tablesWhole (tables (now (entries .entry)) (now (features .entry)) []) ⌝ }
 {
     if entries.len() % ENTRY_ROW_SIZE != 0 {
         return false;

@@ -15,7 +15,7 @@ use Rattle.handshake.specs.declared.FeatureRow.{FeatureRow}
 use Rattle.handshake.specs.Entry.{addressOf}
 use Rattle.handshake.specs.AddressLaws.{addressBytes-of}
 use Rattle.handshake.specs.Value.{addressBytes, shortStrings}
-use Rattle.handshake.specs.Tables.{lent, bytesAt, entryOf, featureNumbers, entryNumbers, inside}
+use Rattle.handshake.specs.Tables.{tables, bytesAt, entryFromRow, featureNumbers, entryNumbers, inside}
 use Rattle.handshake.specs.TablesLaws.{length-bytesAt, numbers-of}
 use Rattle.vlq.specs.Vlq.{vlqBytes}
 

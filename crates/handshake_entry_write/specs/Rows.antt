@@ -4,8 +4,8 @@ use mathlib.Core.List.{List, [], _∷_, flatMap}
 use Rattle.wire.specs.Output.{ask, written}
 use Rattle.wire.specs.declared.Written.{Written}
 use Rattle.handshake.specs.Value.{entryBytes}
-use Rattle.handshake.specs.Tables.{Lent, entriesOf, tablesWhole}
+use Rattle.handshake.specs.Tables.{Tables, entriesOf, tablesWhole}
 use Rattle.handshake_entry_ask.specs.Asked.{rowsAsked}
 
-unfoldable pub rowsWritten : Lent → ℕ → List ℕ → ℕ → Written
+unfoldable pub rowsWritten : Tables → ℕ → List ℕ → ℕ → Written
 rowsWritten l before out at = written (ask 16 (tablesWhole l) ∷ []) (rowsAsked l before) out at (flatMap entryBytes (entriesOf l))

@@ -11,18 +11,18 @@ use Rattle.wire_output.specs.Asked.{writtenFor, outputAsked}
 use Rattle.wire_output.specs.AskedLaws.{Without16, output-sized}
 use Rattle.wire_output.specs.CheckedLaws.{accepted, stored, kept}
 use Rattle.handshake.specs.Value.{entryBytes, entriesAsked}
-use Rattle.handshake.specs.Tables.{Lent, lent, entryRow, entriesOf, tablesWhole}
+use Rattle.handshake.specs.Tables.{Tables, tables, entryRow, entriesOf, tablesWhole}
 use Rattle.handshake_entry_ask.specs.Asked.{rowsAsked, entriesSize}
 use Rattle.handshake_entry_write.specs.Ready.{Ready, EntriesReady}
 use Rattle.handshake_entry_write.specs.ReadyLaws.{row-ready, each-row-asked}
 use Rattle.handshake_entry_write.specs.Rows.{rowsWritten}
 
 -- each row can be stored
-pub each-row-ready : (l : Lent) (k : ℕ) → k < length (l .entries) / 12 → EntriesReady l → Ready (lent [] (l .features) (l .buffer)) (entryRow (l .entries) k)
+pub each-row-ready : (l : Tables) (k : ℕ) → k < length (l .entries) / 12 → EntriesReady l → Ready (tables [] (l .features) (l .buffer)) (entryRow (l .entries) k)
 each-row-ready l k h all = row-ready l k (each-row-asked l k h (all .inside) (all .asked)) (all .whole)
 
 -- what was said of the entries, and of the output
-module _ (l : Lent) (before : ℕ) (out : List ℕ) (at : ℕ) {size : Size} {r : Written} (e1 : size ≡ entriesSize l before)
+module _ (l : Tables) (before : ℕ) (out : List ℕ) (at : ℕ) {size : Size} {r : Written} (e1 : size ≡ entriesSize l before)
     (e2 : r ≡ outputAsked (length out) at size)
   where
     says : r ≡ writtenFor (ask 16 (tablesWhole l) ∷ []) (rowsAsked l before) (length out) at (length (flatMap entryBytes (entriesOf l)))

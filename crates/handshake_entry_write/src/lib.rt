@@ -12,8 +12,8 @@ ghost use Rattle.vlq.specs.Vlq.{vlqBytes};
 ghost use Rattle.vlq.specs.ShortString.{shortStringBytes};
 ghost use Rattle.handshake.specs.Entry.{addressOf};
 ghost use Rattle.handshake.specs.Value.{addressBytes, featureBytes, entryBytes, shortStrings};
-ghost use Rattle.handshake.specs.Tables.{lent, rows, featureRow, bytesAt, featureOf, featureNumbers, entryOf, entriesOf, entryNumbers, featureInside};
-ghost use Rattle.handshake.specs.Writes.{entryAt, entryWritten};
+ghost use Rattle.handshake.specs.Tables.{tables, rows, featureRow, bytesAt, featureFromRow, featureNumbers, entryFromRow, entriesOf, entryNumbers, featureInside};
+ghost use Rattle.handshake.specs.Writes.{entryAtRow, entryWritten};
 ghost use Rattle.handshake_entry_ask.specs.Asked.{headBytes};
 ghost use Rattle.handshake_entry_write.specs.Ready.{Ready, EntriesReady};
 ghost use Rattle.handshake_entry_write.specs.Rows.{rowsWritten};
@@ -39,8 +39,8 @@ pub fn write_entry(
     buffer: &[u8],
     k: usize,
 ) -> Written
-    ensures { λ r. ⌜ r ≡ entryWritten (lent (now (entries .entry)) (now (features .entry)) (now (buffer .entry))) k (now (out .entry)) at ⌝ }
-    ensures { λ r. ⌜ now (out .exit) ≡ outputAfter r (now (out .entry)) at (entryBytes (entryAt (lent (now (entries .entry)) (now (features .entry)) (now (buffer .entry))) k)) ⌝ }
+    ensures { λ r. ⌜ r ≡ entryWritten (tables (now (entries .entry)) (now (features .entry)) (now (buffer .entry))) k (now (out .entry)) at ⌝ }
+    ensures { λ r. ⌜ now (out .exit) ≡ outputAfter r (now (out .entry)) at (entryBytes (entryAtRow (tables (now (entries .entry)) (now (features .entry)) (now (buffer .entry))) k)) ⌝ }
 {
     let answer = ask_output(out.len(), at, ask_entry(entries, features, buffer, k));
     if let Written::To(_) = answer {
@@ -58,8 +58,8 @@ pub fn write_rows(
     features: &[u32],
     buffer: &[u8],
 ) -> Written
-    ensures { λ r. ⌜ r ≡ rowsWritten (lent (now (entries .entry)) (now (features .entry)) (now (buffer .entry))) before (now (out .entry)) at ⌝ }
-    ensures { λ r. ⌜ now (out .exit) ≡ outputAfter r (now (out .entry)) at (flatMap entryBytes (entriesOf (lent (now (entries .entry)) (now (features .entry)) (now (buffer .entry))))) ⌝ }
+    ensures { λ r. ⌜ r ≡ rowsWritten (tables (now (entries .entry)) (now (features .entry)) (now (buffer .entry))) before (now (out .entry)) at ⌝ }
+    ensures { λ r. ⌜ now (out .exit) ≡ outputAfter r (now (out .entry)) at (flatMap entryBytes (entriesOf (tables (now (entries .entry)) (now (features .entry)) (now (buffer .entry))))) ⌝ }
 {
     let size = ask_entries(before, entries, features, buffer);
     let written = ask_output(out.len(), at, size);
@@ -71,9 +71,9 @@ pub fn write_rows(
 
 // Stores all entries of a table, one after the other, and gives the place after them.
 fn put_rows(out: &mut [u8], at: usize, entries: &[u32], features: &[u32], buffer: &[u8]) -> usize
-    requires { ⌜ EntriesReady (lent (now entries) (now features) (now buffer)) ⌝ }
-    requires { ⌜ at + length (flatMap entryBytes (entriesOf (lent (now entries) (now features) (now buffer)))) ≤ length (now out) ⌝ }
-    ensures { λ r. ⌜ Wrote (now (out .entry)) at (flatMap entryBytes (entriesOf (lent (now (entries .entry)) (now (features .entry)) (now (buffer .entry))))) r (now (out .exit)) ⌝ }
+    requires { ⌜ EntriesReady (tables (now entries) (now features) (now buffer)) ⌝ }
+    requires { ⌜ at + length (flatMap entryBytes (entriesOf (tables (now entries) (now features) (now buffer)))) ≤ length (now out) ⌝ }
+    ensures { λ r. ⌜ Wrote (now (out .entry)) at (flatMap entryBytes (entriesOf (tables (now (entries .entry)) (now (features .entry)) (now (buffer .entry))))) r (now (out .exit)) ⌝ }
 {
     let n = entries.len() / ENTRY_ROW_SIZE;
     let mut o = at;
@@ -88,9 +88,9 @@ fn put_rows(out: &mut [u8], at: usize, entries: &[u32], features: &[u32], buffer
 
 // Stores the entry of a row and gives the place after it.
 fn put_entry(out: &mut [u8], at: usize, features: &[u32], buffer: &[u8], e: EntryRow) -> usize
-    requires { ⌜ Ready (lent [] (now features) (now buffer)) e ⌝ }
-    requires { ⌜ at + length (entryBytes (entryOf (lent [] (now features) (now buffer)) e)) ≤ length (now out) ⌝ }
-    ensures { λ r. ⌜ Wrote (now (out .entry)) at (entryBytes (entryOf (lent [] (now (features .entry)) (now (buffer .entry))) e)) r (now (out .exit)) ⌝ }
+    requires { ⌜ Ready (tables [] (now features) (now buffer)) e ⌝ }
+    requires { ⌜ at + length (entryBytes (entryFromRow (tables [] (now features) (now buffer)) e)) ≤ length (now out) ⌝ }
+    ensures { λ r. ⌜ Wrote (now (out .entry)) at (entryBytes (entryFromRow (tables [] (now (features .entry)) (now (buffer .entry))) e)) r (now (out .exit)) ⌝ }
 {
     let a = put_head(out, at, buffer, e);
     let b = put_address(out, a, buffer, e);
@@ -100,7 +100,7 @@ fn put_entry(out: &mut [u8], at: usize, features: &[u32], buffer: &[u8], e: Entr
 
 // Stores agent, version and name.
 fn put_head(out: &mut [u8], at: usize, buffer: &[u8], e: EntryRow) -> usize
-    requires { ⌜ (entryNumbers e ≡ true) × (shortStrings (entryOf (lent [] [] (now buffer)) e) ≡ true) ⌝ }
+    requires { ⌜ (entryNumbers e ≡ true) × (shortStrings (entryFromRow (tables [] [] (now buffer)) e) ≡ true) ⌝ }
     requires { ⌜ (e .agentat + e .agentlen ≤ length (now buffer)) × (e .nameat + e .namelen ≤ length (now buffer)) ⌝ }
     requires { ⌜ at + length (headBytes (now buffer) e) ≤ length (now out) ⌝ }
     ensures { λ r. ⌜ Wrote (now (out .entry)) at (headBytes (now (buffer .entry)) e) r (now (out .exit)) ⌝ }
@@ -145,8 +145,8 @@ fn put_address(out: &mut [u8], at: usize, buffer: &[u8], e: EntryRow) -> usize
 fn put_features(out: &mut [u8], at: usize, features: &[u32], buffer: &[u8], e: EntryRow) -> usize
     requires { ⌜ e .first + e .count ≤ length (now features) / 3 ⌝ }
     requires { ⌜ (every featureNumbers (rows (featureRow (now features)) (e .first) (e .count)) ≡ true) × (every (featureInside (now buffer)) (rows (featureRow (now features)) (e .first) (e .count)) ≡ true) ⌝ }
-    requires { ⌜ at + length (flatMap featureBytes (map (featureOf (now buffer)) (rows (featureRow (now features)) (e .first) (e .count)))) ≤ length (now out) ⌝ }
-    ensures { λ r. ⌜ Wrote (now (out .entry)) at (flatMap featureBytes (map (featureOf (now (buffer .entry))) (rows (featureRow (now (features .entry))) (e .first) (e .count)))) r (now (out .exit)) ⌝ }
+    requires { ⌜ at + length (flatMap featureBytes (map (featureFromRow (now buffer)) (rows (featureRow (now features)) (e .first) (e .count)))) ≤ length (now out) ⌝ }
+    ensures { λ r. ⌜ Wrote (now (out .entry)) at (flatMap featureBytes (map (featureFromRow (now (buffer .entry))) (rows (featureRow (now (features .entry))) (e .first) (e .count)))) r (now (out .exit)) ⌝ }
 {
     let first = e.first as usize;
     let count = e.count as usize;
@@ -167,8 +167,8 @@ fn put_features(out: &mut [u8], at: usize, features: &[u32], buffer: &[u8], e: E
 
 fn put_feature(out: &mut [u8], at: usize, buffer: &[u8], f: FeatureRow) -> usize
     requires { ⌜ (featureNumbers f ≡ true) × (f .at + f .len ≤ length (now buffer)) ⌝ }
-    requires { ⌜ at + length (featureBytes (featureOf (now buffer) f)) ≤ length (now out) ⌝ }
-    ensures { λ r. ⌜ Wrote (now (out .entry)) at (featureBytes (featureOf (now (buffer .entry)) f)) r (now (out .exit)) ⌝ }
+    requires { ⌜ at + length (featureBytes (featureFromRow (now buffer) f)) ≤ length (now out) ⌝ }
+    ensures { λ r. ⌜ Wrote (now (out .entry)) at (featureBytes (featureFromRow (now (buffer .entry)) f)) r (now (out .exit)) ⌝ }
 {
     let body = part_of(buffer, f.at, f.len);
     out[at] = f.id as u8;

@@ -13,13 +13,13 @@ use Rattle.handshake.specs.Writes.{Config, modeFeature, sessionFeature}
 
 -- agent, version, name, address and timestamp are left empty
 abbrev made : Network → ProxyMode → ℕ → Bool → ℤ → ℤ → Config
-made network mode statetype verifying blocks session =
+made network mode stateType verifying blocksToKeep session =
     record {
       network = network;
       mode = mode;
-      stateType = statetype;
+      stateType = stateType;
       verifying = verifying;
-      blocksToKeep = blocks;
+      blocksToKeep = blocksToKeep;
       agent = [];
       version = record { major = 0; minor = 0; patch = 0 };
       name = [];
@@ -29,7 +29,7 @@ made network mode statetype verifying blocks session =
     }
 
 unfoldable pub modeFeatureOf : ProxyMode → ℕ → Bool → ℤ → FeatureValue
-modeFeatureOf mode statetype verifying blocks = modeFeature (made Mainnet mode statetype verifying blocks (pos 0))
+modeFeatureOf mode stateType verifying blocksToKeep = modeFeature (made Mainnet mode stateType verifying blocksToKeep (pos 0))
 
 unfoldable pub sessionFeatureOf : Network → ℤ → FeatureValue
 sessionFeatureOf network session = sessionFeature (made network Full 0 false (pos 0) session)

@@ -50,13 +50,13 @@ unfolding nipopow
 nipopow-two Full = omega arith
 nipopow-two Light = omega arith
 
-module _ (mode : ProxyMode) (statetype : ℕ) (verifying : Bool) (blocks : ℤ) {z : ℕ} (e : z ≡ zigzagEncode blocks) (small : z < 2 ^ 64) where
+module _ (mode : ProxyMode) (stateType : ℕ) (verifying : Bool) (blocksToKeep : ℤ) {z : ℕ} (e : z ≡ zigzagEncode blocksToKeep) (small : z < 2 ^ 64) where
   abbrev mode-feature : FeatureValue
-  mode-feature = modeFeatureOf mode statetype verifying blocks
+  mode-feature = modeFeatureOf mode stateType verifying blocksToKeep
 
-  mode-body : mode-feature .body ≡ statetype ∷ (cond verifying 1 0 ∷ (nipopow mode ++ vlqBytes z))
+  mode-body : mode-feature .body ≡ stateType ∷ (cond verifying 1 0 ∷ (nipopow mode ++ vlqBytes z))
   unfolding modeFeatureOf modeFeature
-  mode-body = ap (λ (y : ℕ). statetype ∷ (cond verifying 1 0 ∷ (nipopow mode ++ vlqBytes y))) (sym e)
+  mode-body = ap (λ (y : ℕ). stateType ∷ (cond verifying 1 0 ∷ (nipopow mode ++ vlqBytes y))) (sym e)
 
   mode-size : length (mode-feature .body) ≡ 2 + length (nipopow mode) + length (vlqBytes z)
   mode-size = omega (arith, ap length mode-body, length-append (nipopow mode) (vlqBytes z))
@@ -68,11 +68,11 @@ module _ (mode : ProxyMode) (statetype : ℕ) (verifying : Bool) (blocks : ℤ) 
   length-mode = omega (arith, mode-size, short-length mode-feature mode-short)
 
   pub mode-parts : {n flag : ℕ} → n + 2 ≡ length (featureBytes mode-feature) → flag ≡ cond verifying 1 0
-      → featureBytes mode-feature ≡ (16 ∷ n ∷ statetype ∷ flag ∷ []) ++ (nipopow mode ++ vlqBytes z)
+      → featureBytes mode-feature ≡ (16 ∷ n ∷ stateType ∷ flag ∷ []) ++ (nipopow mode ++ vlqBytes z)
   unfolding modeFeatureOf modeFeature
   mode-parts {n} {flag} p q =
       short-of mode-feature p mode-short ∙ ap (λ (l : List ℕ). 16 ∷ (n ∷ l)) mode-body
-      ∙ ap (λ (x : ℕ). 16 ∷ (n ∷ (statetype ∷ (x ∷ (nipopow mode ++ vlqBytes z))))) (sym q)
+      ∙ ap (λ (x : ℕ). 16 ∷ (n ∷ (stateType ∷ (x ∷ (nipopow mode ++ vlqBytes z))))) (sym q)
 
 pub length-magic : (n : Network) → length (magicOf n) ≡ 4
 length-magic Mainnet = refl

@@ -29,39 +29,46 @@ pub fn write_mode(
     out: &mut [u8],
     at: usize,
     mode: ProxyMode,
-    statetype: u8,
+    state_type_id: u8,
     verifying: bool,
-    blocks: i32,
+    blocks_to_keep: i32,
 ) -> Written
-    ensures { λ r. ⌜ r ≡ written [] [] (now (out .entry)) at (featureBytes (modeFeatureOf mode statetype verifying blocks)) ⌝ }
-    ensures { λ r. ⌜ now (out .exit) ≡ outputAfter r (now (out .entry)) at (featureBytes (modeFeatureOf mode statetype verifying blocks)) ⌝ }
+    ensures { λ r. ⌜ r ≡ written [] [] (now (out .entry)) at (featureBytes (modeFeatureOf mode «state_type_id» verifying «blocks_to_keep»)) ⌝ }
+    ensures { λ r. ⌜ now (out .exit) ≡ outputAfter r (now (out .entry)) at (featureBytes (modeFeatureOf mode «state_type_id» verifying «blocks_to_keep»)) ⌝ }
 {
-    let answer = ask_room(out.len(), at, mode_len(mode, blocks));
+    let answer = ask_room(out.len(), at, mode_len(mode, blocks_to_keep));
     if let Written::To(_) = answer {
-        put_mode(out, at, mode, statetype, verifying, blocks);
+        put_mode(out, at, mode, state_type_id, verifying, blocks_to_keep);
     }
     answer
 }
 
 // How many bytes Mode is written as, whatever the state type and the flag.
-pub fn mode_len(mode: ProxyMode, blocks: i32) -> usize
-    ensures { λ r. ⌜ ((statetype : ℕ) (verifying : Bool) → r ≡ length (featureBytes (modeFeatureOf mode statetype verifying blocks))) × (r ≤ 16) ⌝ }
+pub fn mode_len(mode: ProxyMode, blocks_to_keep: i32) -> usize
+    ensures { λ r. ⌜ ((«state_type_id» : ℕ) (verifying : Bool) → r ≡ length (featureBytes (modeFeatureOf mode «state_type_id» verifying «blocks_to_keep»))) × (r ≤ 16) ⌝ }
 {
-    let n = vlq_len(zigzag_encode(blocks) as u64);
+    let n = vlq_len(zigzag_encode(blocks_to_keep) as u64);
     match mode {
         ProxyMode::Full => 5 + n,
         ProxyMode::Light => 6 + n,
     }
 }
 
-fn put_mode(out: &mut [u8], at: usize, mode: ProxyMode, statetype: u8, verifying: bool, blocks: i32)
-    requires { ⌜ at + length (featureBytes (modeFeatureOf mode statetype verifying blocks)) ≤ length (now out) ⌝ }
-    ensures { λ _. ⌜ now (out .exit) ≡ put (now (out .entry)) at (featureBytes (modeFeatureOf mode statetype verifying blocks)) ⌝ }
+fn put_mode(
+    out: &mut [u8],
+    at: usize,
+    mode: ProxyMode,
+    state_type_id: u8,
+    verifying: bool,
+    blocks_to_keep: i32,
+)
+    requires { ⌜ at + length (featureBytes (modeFeatureOf mode «state_type_id» verifying «blocks_to_keep»)) ≤ length (now out) ⌝ }
+    ensures { λ _. ⌜ now (out .exit) ≡ put (now (out .entry)) at (featureBytes (modeFeatureOf mode «state_type_id» verifying «blocks_to_keep»)) ⌝ }
 {
-    let kept = zigzag_encode(blocks) as u64;
+    let kept = zigzag_encode(blocks_to_keep) as u64;
     out[at] = FEATURE_MODE;
-    out[at + 1] = (mode_len(mode, blocks) - 2) as u8;
-    out[at + 2] = statetype;
+    out[at + 1] = (mode_len(mode, blocks_to_keep) - 2) as u8;
+    out[at + 2] = state_type_id;
     out[at + 3] = flag_of(verifying);
     let a = put_nipopow(out, at + 4, mode);
     write_vlq(out, a, kept);

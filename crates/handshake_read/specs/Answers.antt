@@ -17,8 +17,8 @@ use Rattle.handshake_read.specs.declared.HeadRead.{HeadRead}
 use Rattle.handshake_read.specs.declared.HeadRead.the-variants as HeadReads
 use Rattle.handshake_read.specs.declared.FeatureRead.{FeatureRead}
 use Rattle.handshake_read.specs.declared.FeatureRead.the-variants as FeatureReads
-use Rattle.handshake_read.specs.declared.EndRead.{EndRead}
-use Rattle.handshake_read.specs.declared.EndRead.the-variants as EndReads
+use Rattle.handshake_read.specs.declared.FeaturesEndRead.{FeaturesEndRead}
+use Rattle.handshake_read.specs.declared.FeaturesEndRead.the-variants as FeaturesEndReads
 use Rattle.handshake_read.specs.declared.FeaturesRead.{FeaturesRead}
 use Rattle.handshake_read.specs.declared.FeaturesRead.the-variants as FeaturesReads
 use Rattle.handshake_read.specs.declared.EntryRead.{EntryRead}
@@ -74,8 +74,8 @@ abbrev pub featuresOf : EntryFeatures → Features
 featuresOf l = record { count = length (l .features); start = l .first }
 
 -- of features, nothing but where they end
-abbrev pub ended : List EntryFeature → Unit {0}
-ended l = tt
+abbrev pub featuresEnded : List EntryFeature → Unit {0}
+featuresEnded l = tt
 
 abbrev pub versionAnswer : VersionRead → Answer Version
 versionAnswer (VersionReads.Value v c) = got v (c .at)
@@ -85,9 +85,9 @@ abbrev pub headAnswer : HeadRead → Answer Head
 headAnswer (HeadReads.Value h c) = got h (c .at)
 headAnswer (HeadReads.Refused m) = refused m
 
-abbrev pub endAnswer : EndRead → Answer (Unit {0})
-endAnswer (EndReads.Value c) = got tt (c .at)
-endAnswer (EndReads.Refused m) = refused m
+abbrev pub featuresEndAnswer : FeaturesEndRead → Answer (Unit {0})
+featuresEndAnswer (FeaturesEndReads.Value c) = got tt (c .at)
+featuresEndAnswer (FeaturesEndReads.Refused m) = refused m
 
 abbrev pub featuresAnswer : FeaturesRead → Answer Features
 featuresAnswer (FeaturesReads.Value l c) = got l (c .at)

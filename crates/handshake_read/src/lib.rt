@@ -3,8 +3,8 @@ ghost use mathlib.Core.Path.{_≡_};
 ghost use Rattle.wire.specs.Reader.{andThen, place, mapAnswer, listOf};
 ghost use Rattle.handshake.specs.Entry.{version, feature, entry, handshake};
 ghost use Rattle.handshake_read.specs.Parts.{head, features, featureAt};
-ghost use Rattle.handshake_read.specs.Answers.{headOf, featuresOf, featureOf, ended, peerSpecOf, handshakeOf};
-ghost use Rattle.handshake_read.specs.Answers.{versionAnswer, headAnswer, featureAnswer, endAnswer, featuresAnswer, entryAnswer, handshakeAnswer, sizeAnswer};
+ghost use Rattle.handshake_read.specs.Answers.{headOf, featuresOf, featureOf, featuresEnded, peerSpecOf, handshakeOf};
+ghost use Rattle.handshake_read.specs.Answers.{versionAnswer, headAnswer, featureAnswer, featuresEndAnswer, featuresAnswer, entryAnswer, handshakeAnswer, sizeAnswer};
 use handshake_address_read::AddressRead;
 use types::Address;
 use types::Version;
@@ -79,7 +79,7 @@ enum HeadRead {
     Refused(u8),
 }
 
-enum EndRead {
+enum FeaturesEndRead {
     Value(Cursor),
     Refused(u8),
 }
@@ -168,8 +168,8 @@ pub fn feature_by_index(s: &[u8], c: Cursor, index: usize) -> FeatureRead
                 return FeatureRead::Refused(12);
             }
             match skip_features(s, Cursor { at: features.start }, index) {
-                EndRead::Value(d) => read_feature(s, d),
-                EndRead::Refused(m) => FeatureRead::Refused(m),
+                FeaturesEndRead::Value(d) => read_feature(s, d),
+                FeaturesEndRead::Refused(m) => FeatureRead::Refused(m),
             }
         }
         EntryRead::Refused(m) => FeatureRead::Refused(m),
@@ -233,8 +233,8 @@ fn read_features(s: &[u8], c: Cursor) -> FeaturesRead
         ByteRead::Value(count, d) => {
             let start = d.at;
             match skip_features(s, d, count as usize) {
-                EndRead::Value(e) => FeaturesRead::Value(Features { count, start }, e),
-                EndRead::Refused(m) => FeaturesRead::Refused(m),
+                FeaturesEndRead::Value(e) => FeaturesRead::Value(Features { count, start }, e),
+                FeaturesEndRead::Refused(m) => FeaturesRead::Refused(m),
             }
         }
         ByteRead::Refused(m) => FeaturesRead::Refused(m),
@@ -242,8 +242,8 @@ fn read_features(s: &[u8], c: Cursor) -> FeaturesRead
 }
 
 // n features: where they end.
-fn skip_features(s: &[u8], c: Cursor, n: usize) -> EndRead
-    ensures { λ r. ⌜ endAnswer r ≡ mapAnswer ended (listOf n (λ before. feature) (now (s .entry)) (c .at)) ⌝ }
+fn skip_features(s: &[u8], c: Cursor, n: usize) -> FeaturesEndRead
+    ensures { λ r. ⌜ featuresEndAnswer r ≡ mapAnswer featuresEnded (listOf n (λ before. feature) (now (s .entry)) (c .at)) ⌝ }
 {
     let mut d = c;
     let mut i: usize = 0;
@@ -253,8 +253,8 @@ fn skip_features(s: &[u8], c: Cursor, n: usize) -> EndRead
                 d = e;
                 i += 1;
             }
-            FeatureRead::Refused(m) => return EndRead::Refused(m),
+            FeatureRead::Refused(m) => return FeaturesEndRead::Refused(m),
         }
     }
-    EndRead::Value(d)
+    FeaturesEndRead::Value(d)
 }

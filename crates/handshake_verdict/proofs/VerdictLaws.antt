@@ -40,13 +40,13 @@ module _ (network : Network) {o : Option EntryFeature} where
   magic-none q = rw q
 
   module _ (s : List ℕ) (f : Feature) (found : FoundAt s f o) where
-    long : length (take (f .body .len) (drop (f .body .start) s)) ≡ f .body .len
-    long = length-part (f .body .len) s (f .body .start) (found .inside)
+    size : length (take (f .body .len) (drop (f .body .start) s)) ≡ f .body .len
+    size = length-part (f .body .len) s (f .body .start) (found .inside)
 
     pub magic-short : f .body .len < 4 → false ≡ otherMagic network o
     unfolding otherMagic
-    magic-short k = rw (found .same, long, lt-leb 4 (f .body .len) k)
+    magic-short k = rw (found .same, size, lt-leb 4 (f .body .len) k)
 
     pub magic-asked : {b : Bool} → 4 ≤ f .body .len → b ≡ sameBytes (take 4 (drop (f .body .start) s)) (magicOf network) → not b ≡ otherMagic network o
     unfolding otherMagic
-    magic-asked k e = rw (found .same, long, le-leb 4 (f .body .len) k, take-take 4 (f .body .len) (drop (f .body .start) s) k, ← e)
+    magic-asked k e = rw (found .same, size, le-leb 4 (f .body .len) k, take-take 4 (f .body .len) (drop (f .body .start) s) k, ← e)

@@ -130,7 +130,7 @@ fn other_magic(s: &[u8], features: Features, network: Network) -> bool
             if f.body.len < 4 {
                 return false;
             }
-            !wire::stands_at(s, f.body.start, network.magic())
+            !wire::matches_at(s, f.body.start, network.magic())
         }
         Found::None => false,
     }

@@ -7,8 +7,8 @@ ghost use lib.Dec.{ltb};
 ghost use Rattle.wire.specs.Bytes.{every};
 ghost use Rattle.wire.specs.Output.{outputAfter};
 ghost use Rattle.handshake.specs.Value.{handshakeBytes};
-ghost use Rattle.handshake.specs.Tables.{lent};
-ghost use Rattle.handshake.specs.Writes.{handshakeAt, handshakeWritten};
+ghost use Rattle.handshake.specs.Tables.{tables};
+ghost use Rattle.handshake.specs.Writes.{handshakeAtRow, handshakeWritten};
 ghost use Rattle.handshake_write.specs.Behind.{behind};
 use handshake_entry_write::write_entry;
 use vlq_write::vlq_len;
@@ -27,8 +27,8 @@ pub fn write_handshake(
     buffer: &[u8],
     k: usize,
 ) -> Written
-    ensures { λ r. ⌜ r ≡ handshakeWritten timestamp (lent (now (entries .entry)) (now (features .entry)) (now (buffer .entry))) k (now (out .entry)) at ⌝ }
-    ensures { λ r. ⌜ now (out .exit) ≡ outputAfter r (now (out .entry)) at (handshakeBytes (handshakeAt timestamp (lent (now (entries .entry)) (now (features .entry)) (now (buffer .entry))) k)) ⌝ }
+    ensures { λ r. ⌜ r ≡ handshakeWritten timestamp (tables (now (entries .entry)) (now (features .entry)) (now (buffer .entry))) k (now (out .entry)) at ⌝ }
+    ensures { λ r. ⌜ now (out .exit) ≡ outputAfter r (now (out .entry)) at (handshakeBytes (handshakeAtRow timestamp (tables (now (entries .entry)) (now (features .entry)) (now (buffer .entry))) k)) ⌝ }
     ensures { λ _. ⌜ (timestamp < 2 ^ 64) × (every (λ b. ltb b 256) (now (buffer .entry)) ≡ true) ⌝ }
 {
     let v = vlq_len(timestamp);

@@ -13,7 +13,7 @@ use Rattle.types.specs.declared.Address.the-variants.{None}
 use Rattle.handshake.specs.Entry.{version, addressIf, entry}
 use Rattle.handshake.specs.Tables.{rows}
 use Rattle.handshake.specs.Value.{addressBytes, featureBytes, versionBytes, entryBytes}
-use Rattle.messages.specs.Message.{Message, getPeers, peers, modifierRequest, modifierResponse, inv, syncInfo, unknown, count, header, ids, total, payloadAfter, payload, payloads, peersBody, whole, message}
+use Rattle.messages.specs.Message.{Message, getPeers, peers, modifierRequest, modifierResponse, inv, syncInfo, unknown, count, inventoryHeader, ids, total, payloadAfter, payload, payloads, peersBody, wholeBody, message}
 use Rattle.messages.specs.Value.{MessageValue, getPeersValue, peersValue, modifierRequestValue, modifierResponseValue, invValue, syncInfoValue, unknownValue, codeOf, idsBytes, payloadBytes, bodyBytes, unknownCode}
 
 pub record Case : Type 0 where
@@ -81,7 +81,7 @@ cases =
     ∷ []
 
 pub all-cases : map (λ (c : Case). message (c .cap) (c .code) (c .body) 0) cases ≡ map (λ (c : Case). c .answer) cases
-unfolding cases message count header ids total payloadAfter payload payloads peersBody whole fold listOf groups vlq vlqLength string shortString utf8From utf8 version addressIf entry
+unfolding cases message count inventoryHeader ids total payloadAfter payload payloads peersBody wholeBody fold listOf groups vlq vlqLength string shortString utf8From utf8 version addressIf entry
 all-cases = refl
 
 -- ---- of all codes, those of the six messages, and the others
@@ -113,7 +113,7 @@ pub all-read : (map readAs (among unknownCode codes) ≡ replicate 250 (got (unk
     ∷ got (inv 0 []) 2
     ∷ got (syncInfo (0 ∷ 0 ∷ [])) 2
     ∷ [])
-unfolding among rows unknownCode message count header ids payloads peersBody whole fold listOf groups vlq vlqLength
+unfolding among rows unknownCode message count inventoryHeader ids payloads peersBody wholeBody fold listOf groups vlq vlqLength
 all-read = (refl, refl)
 
 -- ---- a message's code and the bytes of its body

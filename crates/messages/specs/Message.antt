@@ -32,13 +32,13 @@ abbrev pub maxInvObjects : ℕ
 maxInvObjects = 400
 
 -- what 22, 33 and 55 begin with
-pub record Header : Type 0 where
+pub record InventoryHeader : Type 0 where
   pub type : ℕ
   pub count : ℕ
 
 -- type byte, count
-unfoldable pub header : Reader Header
-header =
+unfoldable pub inventoryHeader : Reader InventoryHeader
+inventoryHeader =
     andThen byte (λ type.
     andThen (count maxInvObjects) (λ n.
     pure (record { type = type; count = n })))
@@ -46,7 +46,7 @@ header =
 -- 22 and 55: type byte, count, ids of 32 bytes
 unfoldable pub ids : (ℕ → List Segment → Message) → Reader Message
 ids message =
-    andThen header (λ h.
+    andThen inventoryHeader (λ h.
     andThen (listOf (h .count) (λ before. part 32)) (λ l.
     pure (message (h .type) l)))
 
@@ -72,7 +72,7 @@ payload size before = payloadAfter size (total before)
 -- 33: type byte, count, payloads
 unfoldable pub payloads : ℕ → Reader Message
 payloads size =
-    andThen header (λ h.
+    andThen inventoryHeader (λ h.
     andThen (listOf (h .count) (payload size)) (λ l.
     pure (modifierResponse (h .type) l)))
 
@@ -84,8 +84,8 @@ peersBody cap =
     pure (peers l)))
 
 -- the whole body as it is
-unfoldable pub whole : (List ℕ → Message) → Reader Message
-whole message s at = got (message s) (length s)
+unfoldable pub wholeBody : (List ℕ → Message) → Reader Message
+wholeBody message s at = got (message s) (length s)
 
 -- GetPeers ignores its body
 unfoldable pub message : ℕ → ℕ → Reader Message
@@ -95,5 +95,5 @@ message cap code s at =
     (cond (eqb code 22) (ids modifierRequest s at)
     (cond (eqb code 33) (payloads (length s) s at)
     (cond (eqb code 55) (ids inv s at)
-    (cond (eqb code 65) (whole syncInfo s at)
-    (whole unknown s at))))))
+    (cond (eqb code 65) (wholeBody syncInfo s at)
+    (wholeBody unknown s at))))))

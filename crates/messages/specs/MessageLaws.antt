@@ -19,8 +19,8 @@ use Rattle.vlq.specs.Vlq.{limit, vlqBytes}
 use Rattle.vlq.specs.VlqLaws.{reads-vlqLength}
 use Rattle.handshake.specs.Value.{AddressTyped, EntryValue, entryBytes, entriesAsked}
 use Rattle.handshake.specs.ValueLaws.{Writable, reads-entry, Holds, asked-writable}
-use Rattle.messages.specs.Message.{Payload, Message, getPeers, peers, modifierRequest, modifierResponse, inv, syncInfo, unknown, maxInvObjects, count, Header, header, ids, total, payloadAfter, payload, payloads, peersBody, whole, message}
-use Rattle.messages.specs.Value.{PayloadValue, MessageValue, getPeersValue, peersValue, modifierRequestValue, modifierResponseValue, invValue, syncInfoValue, unknownValue, payloadValue, messageValue, codeOf, idsBytes, payloadBytes, bodyBytes, entriesOf, payloadsWithin, countWithin, unknownCode, codeFree, messageAsked}
+use Rattle.messages.specs.Message.{Payload, Message, getPeers, peers, modifierRequest, modifierResponse, inv, syncInfo, unknown, maxInvObjects, count, InventoryHeader, inventoryHeader, ids, total, payloadAfter, payload, payloads, peersBody, wholeBody, message}
+use Rattle.messages.specs.Value.{PayloadValue, MessageValue, getPeersValue, peersValue, modifierRequestValue, modifierResponseValue, invValue, syncInfoValue, unknownValue, payloadValue, messageValue, codeOf, idsBytes, payloadBytes, bodyBytes, messageEntries, payloadsWithin, countWithin, unknownCode, codeFree, messageAsked}
 
 -- ---- counts, ids
 
@@ -28,11 +28,11 @@ reads-count : (cap n : ℕ) → n ≤ limit → n ≤ cap → ReadsBack (count c
 unfolding count
 reads-count cap n h g = reads-last (reads-vlqLength n h) (λ x e. reads-guard (leb x cap) 10 x (le-leb x cap (omega arith)) e)
 
-abbrev headed : ℕ → ℕ → Header
+abbrev headed : ℕ → ℕ → InventoryHeader
 headed type n = record { type = type; count = n }
 
-reads-header : (type n : ℕ) → n ≤ maxInvObjects → ReadsBack header (λ h. h) (type ∷ vlqBytes n) (headed type n)
-unfolding header
+reads-header : (type n : ℕ) → n ≤ maxInvObjects → ReadsBack inventoryHeader (λ h. h) (type ∷ vlqBytes n) (headed type n)
+unfolding inventoryHeader
 reads-header type n few =
     reads-then {w = type ∷ []} {w′ = vlqBytes n} (reads-byte type) (λ t e.
     reads-last (reads-count maxInvObjects n (omega arith) few) (λ k g. reads-pure (headed t k) (ap₂ headed e g)))
@@ -41,7 +41,7 @@ reads-header type n few =
 module _ {A X : Type 0} (items : ℕ → Reader (List A)) (make : ℕ → List A → Message) (see : A → X) (bytes : X → List ℕ) where
   reads-counted : (code : ℕ) (v : MessageValue) (type : ℕ) (l : List X) → length l ≤ maxInvObjects
       → ReadsBack (items (length l)) (map see) (flatMap bytes l) l → ((k : List A) → map see k ≡ l → messageValue code (make type k) ≡ v)
-      → ReadsBack (andThen header (λ h. andThen (items (h .count)) (λ l. pure (make (h .type) l)))) (messageValue code)
+      → ReadsBack (andThen inventoryHeader (λ h. andThen (items (h .count)) (λ l. pure (make (h .type) l)))) (messageValue code)
       (type ∷ (vlqBytes (length l) ++ flatMap bytes l)) v
   reads-counted code v type l few each value =
       reads-then {w = type ∷ vlqBytes (length l)} {w′ = flatMap bytes l} (reads-header type (length l) few) (λ h e. rw e
@@ -52,8 +52,8 @@ reads-ids : (make : ℕ → List Segment → Message) (code : ℕ) (v : MessageV
     → ((k : List Segment) → map bytesOf k ≡ l → messageValue code (make type k) ≡ v)
     → ReadsBack (ids make) (messageValue code) (idsBytes type l) v
 unfolding ids idsBytes
-reads-ids make code v type l few long value =
-    reads-counted (λ n. listOf n (λ before. part 32)) make bytesOf (λ id. id) code v type l few (reads-each (λ id h. reads-part-of 32 id h) l long) value
+reads-ids make code v type l few len value =
+    reads-counted (λ n. listOf n (λ before. part 32)) make bytesOf (λ id. id) code v type l few (reads-each (λ id h. reads-part-of 32 id h) l len) value
 
 -- ---- payloads
 
@@ -134,7 +134,7 @@ none-of : (t u : Bool) → not t && u ≡ true → (t ≡ false) × (u ≡ true)
 none-of t u h = let b = and-true (not t) u h in (not-true t (b .0), b .1)
 
 reads-unknown : (cap code : ℕ) (s : List ℕ) → unknownCode code ≡ true → message cap code s 0 ≡ got (unknown s) (length s)
-unfolding message unknownCode whole
+unfolding message unknownCode wholeBody
 reads-unknown cap code s h =
     let a = none-of (eqb code 1) _ h in
     let b = none-of (eqb code 2) _ (a .1) in
@@ -159,7 +159,7 @@ idsIn (unknownValue code body) = []
 pub record WritableMessage (cap : ℕ) (v : MessageValue) : Type 0 where
   pub asked : Each Holds (messageAsked cap v)
   pub ids : Each (λ id. length id ≡ 32) (idsIn v)
-  pub addresses : Each (λ e. AddressTyped (e .address)) (entriesOf v)
+  pub addresses : Each (λ e. AddressTyped (e .address)) (messageEntries v)
 
 -- the body of v is read whole, to a message whose value is v
 pub record ReadAs (cap : ℕ) (v : MessageValue) : Type 0 where
@@ -169,7 +169,7 @@ pub record ReadAs (cap : ℕ) (v : MessageValue) : Type 0 where
 
 -- the questions one by one
 record Answered (cap : ℕ) (v : MessageValue) : Type 0 where
-  entries : Each Holds (entriesAsked (entriesOf v))
+  entries : Each Holds (entriesAsked (messageEntries v))
   payloads : payloadsWithin v ≡ true
   count : countWithin cap v ≡ true
   body : length (bodyBytes v) ≤ limit
@@ -177,9 +177,9 @@ record Answered (cap : ℕ) (v : MessageValue) : Type 0 where
 
 answered : (cap : ℕ) (v : MessageValue) → Each Holds (messageAsked cap v) → Answered cap v
 unfolding messageAsked
-answered cap v h = go (each-append-left (entriesAsked (entriesOf v)) _ h) (each-append-right (entriesAsked (entriesOf v)) _ h)
+answered cap v h = go (each-append-left (entriesAsked (messageEntries v)) _ h) (each-append-right (entriesAsked (messageEntries v)) _ h)
   where
-    go : Each Holds (entriesAsked (entriesOf v))
+    go : Each Holds (entriesAsked (messageEntries v))
         → Each Holds (ask 3 (payloadsWithin v) ∷ ask 10 (countWithin cap v) ∷ ask 7 (leb (length (bodyBytes v)) limit) ∷ ask 15 (codeFree v) ∷ [])
         → Answered cap v
     go es (more p (more c (more b (more f none)))) =
@@ -199,7 +199,7 @@ writable-payloads (p ∷ ps) (more w ws) (more l ls) = more (record { id = l; bo
 
 -- every message that can be written is read back
 pub reads-message : (cap : ℕ) (v : MessageValue) → WritableMessage cap v → ReadAs cap v
-unfolding message codeOf bodyBytes messageValue entriesOf idsIn payloadsWithin countWithin codeFree whole
+unfolding message codeOf bodyBytes messageValue messageEntries idsIn payloadsWithin countWithin codeFree wholeBody
 reads-message cap getPeersValue h = record { reading = getPeers; reads = refl; value = refl }
 reads-message cap (peersValue es) h =
     let a = answered cap (peersValue es) (h .asked) in

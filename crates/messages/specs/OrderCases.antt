@@ -22,10 +22,10 @@ use Rattle.handshake.specs.Entry.{addressOf}
 use Rattle.handshake.specs.Value as Values
 use Rattle.handshake.specs.Value.{EntryValue, FeatureValue}
 use Rattle.handshake.specs.Tables as Tables
-use Rattle.handshake.specs.Tables.{Lent, lent}
+use Rattle.handshake.specs.Tables.{Tables, tables}
 use Rattle.frame.specs.Frame.{checkedBytes, frameBytes}
-use Rattle.messages.specs.Value.{PayloadValue, MessageValue, peersValue, modifierRequestValue, modifierResponseValue, invValue, syncInfoValue, unknownValue, idsBytes, payloadBytes, bodyBytes, codeOf, entriesOf, payloadsWithin, countWithin, unknownCode, codeFree, messageAsked}
-use Rattle.messages.specs.Writes.{MessageWrite, writeGetPeers, writePeers, writeModifierRequest, writeModifierResponse, writeInv, writeSyncInfo, writeUnknown, idsOf, payloadOf, payloadInside, valueOf, messageWhole, messageInside, messageWritten}
+use Rattle.messages.specs.Value.{PayloadValue, MessageValue, peersValue, modifierRequestValue, modifierResponseValue, invValue, syncInfoValue, unknownValue, idsBytes, payloadBytes, bodyBytes, codeOf, messageEntries, payloadsWithin, countWithin, unknownCode, codeFree, messageAsked}
+use Rattle.messages.specs.Writes.{MessageWrite, writeGetPeers, writePeers, writeModifierRequest, writeModifierResponse, writeInv, writeSyncInfo, writeUnknown, idsOf, payloadFromRow, payloadInside, valueOf, messageWhole, messageInside, messageWritten}
 
 -- under a cap
 pub data Write : Type 0 where
@@ -71,7 +71,7 @@ abbrev entryWith : List ℕ → List FeatureValue → EntryValue
 entryWith agent features = record { agent = agent; version = record { major = 6; minor = 0; patch = 1 }; name = []; address = None; features = features }
 
 -- Peers and ModifierResponse, into an empty output
-abbrev peersAt : ℕ → Lent → ℕ → Write
+abbrev peersAt : ℕ → Tables → ℕ → Write
 peersAt cap l at = aMessage cap (writePeers l) 0 at
 
 abbrev responseAt : List ℕ → List ℕ → ℕ → Write
@@ -91,18 +91,18 @@ ids write value =
 unfoldable pub cases : List Case
 cases =
     -- Peers: two neighbouring questions answered "no"; each line puts the first of the line before it right
-    case (peersAt 64 (lent (row 0 65536 0) [] []) 1) (Refused 16)
-    ∷ case (peersAt 64 (lent (row 1 0 0) [] []) 1) (Refused 12)
-    ∷ case (peersAt 64 (lent (row 257 0 0) [] (bad 256)) 0) (Refused 12)
-    ∷ case (peersAt 64 (lent (row 256 0 0) [] (bad 256)) 0) (Refused 13)
-    ∷ case (peersAt 0 (lent (row 255 0 256) (empty 256) (bad 255)) 0) (Refused 4)
-    ∷ case (peersAt 0 (lent (row 255 0 256) (empty 256) (good 255)) 0) (Refused 15)
+    case (peersAt 64 (tables (row 0 65536 0) [] []) 1) (Refused 16)
+    ∷ case (peersAt 64 (tables (row 1 0 0) [] []) 1) (Refused 12)
+    ∷ case (peersAt 64 (tables (row 257 0 0) [] (bad 256)) 0) (Refused 12)
+    ∷ case (peersAt 64 (tables (row 256 0 0) [] (bad 256)) 0) (Refused 13)
+    ∷ case (peersAt 0 (tables (row 255 0 256) (empty 256) (bad 255)) 0) (Refused 4)
+    ∷ case (peersAt 0 (tables (row 255 0 256) (empty 256) (good 255)) 0) (Refused 15)
     ∷ case (theValue 0 (peersValue (entryWith [] [] ∷ []))) (Refused 10)
     -- each question over all rows before the next: an earlier one of row 1, a later one of row 0
-    ∷ case (peersAt 64 (lent (row 1 0 0 ++ row 0 65536 0) [] []) 0) (Refused 16)
-    ∷ case (peersAt 64 (lent (row 256 0 0 ++ row 257 0 0) [] (bad 256)) 0) (Refused 12)
-    ∷ case (peersAt 64 (lent (row 1 0 0 ++ row 256 0 0) [] (bad 256)) 0) (Refused 13)
-    ∷ case (peersAt 64 (lent (row 0 0 256 ++ row 256 0 0) (empty 256) (good 256)) 0) (Refused 13)
+    ∷ case (peersAt 64 (tables (row 1 0 0 ++ row 0 65536 0) [] []) 0) (Refused 16)
+    ∷ case (peersAt 64 (tables (row 256 0 0 ++ row 257 0 0) [] (bad 256)) 0) (Refused 12)
+    ∷ case (peersAt 64 (tables (row 1 0 0 ++ row 256 0 0) [] (bad 256)) 0) (Refused 13)
+    ∷ case (peersAt 64 (tables (row 0 0 256 ++ row 256 0 0) (empty 256) (good 256)) 0) (Refused 13)
     ∷ case (theValue 64 (peersValue (entryWith [] (replicate 256 (feature [])) ∷ entryWith (bad 1) [] ∷ []))) (Refused 4)
     -- the cap, and one more
     ∷ case (theValue 2 (peersValue (replicate 2 (entryWith [] [])))) (To 0)
@@ -123,10 +123,10 @@ cases =
     ∷ (ids writeModifierRequest modifierRequestValue ++ ids writeInv invValue)
 
 pub all-cases : map (λ (c : Case). saidOf (c .write)) cases ≡ map (λ (c : Case). c .says) cases
-unfolding cases saidOf messageWritten written asked messageAsked messageWhole messageInside valueOf idsOf payloadOf payloadInside entriesOf payloadsWithin countWithin unknownCode codeFree codeOf
+unfolding cases saidOf messageWritten written asked messageAsked messageWhole messageInside valueOf idsOf payloadFromRow payloadInside messageEntries payloadsWithin countWithin unknownCode codeFree codeOf
     bodyBytes idsBytes payloadBytes frameBytes checkedBytes bigEndianBytes every Values.entriesAsked Values.shortStrings Values.utf8Strings Values.fewFeatures Values.lengthsWithin
-    Values.entryBytes Values.versionBytes Values.addressBytes Values.featureBytes flatMap vlqBytes vlqIn utf8 utf8From leadOf leadIn Utf8.rows
-    Tables.rows Tables.entriesOf Tables.tablesWhole Tables.wholeRows Tables.entryNumbers Tables.featureNumbers Tables.entryInside Tables.inside Tables.featureInside Tables.entryOf Tables.featureOf addressOf
+    Values.entryBytes Values.versionBytes Values.addressBytes Values.featureBytes flatMap vlqBytes vlqIn utf8 utf8From leadOf leadIn Utf8.leadRows
+    Tables.rows Tables.entriesOf Tables.tablesWhole Tables.wholeRows Tables.entryNumbers Tables.featureNumbers Tables.entryInside Tables.inside Tables.featureInside Tables.entryFromRow Tables.featureFromRow addressOf
 all-cases = refl
 
 -- ---- features, payloads and bodies as long as the limit, and one byte longer
@@ -156,9 +156,9 @@ longCases most over =
     ∷ case (theValue 64 (syncInfoValue over)) (Refused 7)
     ∷ []
 
-unfoldable pub Each : List Case → Type 0
-Each [] = Unit {0}
-Each (c ∷ cs) = (saidOf (c .write) ≡ c .says) × Each cs
+unfoldable pub EachAgrees : List Case → Type 0
+EachAgrees [] = Unit {0}
+EachAgrees (c ∷ cs) = (saidOf (c .write) ≡ c .says) × EachAgrees cs
 
 -- a body is longer than a feature or a payload in it
 feature-in-entry : (body : List ℕ) → length body < length (Values.entryBytes (entryWith [] (feature body ∷ [])))
@@ -185,18 +185,18 @@ payload-in-response p =
 
 -- 7 where a feature, or a payload, is as long as a body may be
 peers-7 : (most : List ℕ) → length most ≡ 16388608 → saidOf (theValue 1 (peersValue (entryWith [] (feature most ∷ []) ∷ []))) ≡ Refused 7
-unfolding saidOf asked messageAsked entriesOf payloadsWithin countWithin every Values.entriesAsked Values.shortStrings Values.utf8Strings Values.fewFeatures Values.lengthsWithin utf8 utf8From
+unfolding saidOf asked messageAsked messageEntries payloadsWithin countWithin every Values.entriesAsked Values.shortStrings Values.utf8Strings Values.fewFeatures Values.lengthsWithin utf8 utf8From
 peers-7 most m =
     let e = entryWith [] (feature most ∷ []) in
     rw (m, lt-leb (length (bodyBytes (peersValue (e ∷ [])))) limit (omega (arith, m, feature-in-entry most, entry-in-peers e)))
 
 response-7 : (most : List ℕ) → length most ≡ 16388608 → saidOf (theValue 64 (modifierResponseValue 2 (payload most ∷ []))) ≡ Refused 7
-unfolding saidOf asked messageAsked entriesOf payloadsWithin countWithin every Values.entriesAsked
+unfolding saidOf asked messageAsked messageEntries payloadsWithin countWithin every Values.entriesAsked
 response-7 most m =
     rw (m, lt-leb (length (bodyBytes (modifierResponseValue 2 (payload most ∷ [])))) limit (omega (arith, m, payload-in-response (payload most))))
 
-pub all-long : (most over : List ℕ) → length most ≡ 16388608 → length over ≡ 16388609 → Each (longCases most over)
-unfolding longCases Each saidOf messageWritten written asked messageAsked messageWhole messageInside valueOf payloadInside entriesOf payloadsWithin countWithin unknownCode codeFree
+pub all-long : (most over : List ℕ) → length most ≡ 16388608 → length over ≡ 16388609 → EachAgrees (longCases most over)
+unfolding longCases EachAgrees saidOf messageWritten written asked messageAsked messageWhole messageInside valueOf payloadInside messageEntries payloadsWithin countWithin unknownCode codeFree
     bodyBytes every Values.entriesAsked Values.shortStrings Values.utf8Strings Values.fewFeatures Values.lengthsWithin utf8 utf8From Tables.rows Tables.wholeRows Tables.inside
 all-long most over m o = (
   refl,

@@ -13,7 +13,7 @@ use Rattle.vlq.specs.Vlq.{vlqLength}
 use Rattle.handshake.specs.Places.{EntryPlaced}
 use Rattle.handshake.specs.Entry.{entry}
 use Rattle.handshake.specs.PlacesLaws.{gives-entry}
-use Rattle.messages.specs.Message.{Payload, Message, getPeers, peers, modifierRequest, modifierResponse, inv, syncInfo, unknown, count, header, ids, total, payloadAfter, payload, payloads, peersBody, whole, message}
+use Rattle.messages.specs.Message.{Payload, Message, getPeers, peers, modifierRequest, modifierResponse, inv, syncInfo, unknown, count, inventoryHeader, ids, total, payloadAfter, payload, payloads, peersBody, wholeBody, message}
 use Rattle.messages.specs.Places.{IdPlaced, PayloadPlaced, MessagePlaced}
 
 -- ---- by which reader
@@ -32,7 +32,7 @@ cond-got true q f g = f q
 cond-got false q f g = g q
 
 pub read-by : (cap code : ℕ) (s : List ℕ) (at : ℕ) {m : Message} {e : ℕ} → message cap code s at ≡ got m e → ReadBy cap s at m e
-unfolding message whole
+unfolding message wholeBody
 read-by cap code s at {m} {e} q =
     cond-got (eqb code 1) q (λ q. rw (← value-of q) byNone) (λ q.
     cond-got (eqb code 2) q byPeers (λ q.
@@ -46,7 +46,7 @@ read-by cap code s at {m} {e} q =
 
 module _ {s : List ℕ} {at : ℕ} where
   gives-id : Gives s at (λ g e. IdPlaced s g) (part 32)
-  gives-id = record { holds = λ g e q. let p = gives-part 32 .holds g e q in (p .long, p .placed) }
+  gives-id = record { holds = λ g e q. let p = gives-part 32 .holds g e q in (p .size, p .placed) }
 
   pub gives-payload : (size : ℕ) (before : List Payload) → Gives s at (λ p e. PayloadPlaced s p) (payload size before)
   unfolding payload payloadAfter
@@ -62,14 +62,14 @@ module _ {s : List ℕ} {at : ℕ} where
       → Gives s at (λ m e. MessagePlaced s m) (ids make)
   unfolding ids
   gives-ids make h =
-      gives-then (gives-any header) (λ opening next o.
+      gives-then (gives-any inventoryHeader) (λ opening next o.
       gives-then (gives-listOf (opening .count) (λ before at. gives-id)) (λ l next each.
       gives-pure (make (opening .type) l) (h (opening .type) l each)))
 
   gives-payloads : (size : ℕ) → Gives s at (λ m e. MessagePlaced s m) (payloads size)
   unfolding payloads MessagePlaced
   gives-payloads size =
-      gives-then (gives-any header) (λ opening next o.
+      gives-then (gives-any inventoryHeader) (λ opening next o.
       gives-then (gives-listOf (opening .count) (λ before at. gives-payload size before)) (λ l next each.
       gives-pure (modifierResponse (opening .type) l) each))
 

@@ -67,14 +67,14 @@ bodyBytes (unknownValue code body) = body
 -- ---- the questions of a message, after 16 and 12
 
 -- the entries, of which 13, 4, 15 and 3 are asked
-unfoldable pub entriesOf : MessageValue → List EntryValue
-entriesOf (peersValue es) = es
-entriesOf getPeersValue = []
-entriesOf (modifierRequestValue type ids) = []
-entriesOf (modifierResponseValue type ps) = []
-entriesOf (invValue type ids) = []
-entriesOf (syncInfoValue body) = []
-entriesOf (unknownValue code body) = []
+unfoldable pub messageEntries : MessageValue → List EntryValue
+messageEntries (peersValue es) = es
+messageEntries getPeersValue = []
+messageEntries (modifierRequestValue type ids) = []
+messageEntries (modifierResponseValue type ps) = []
+messageEntries (invValue type ids) = []
+messageEntries (syncInfoValue body) = []
+messageEntries (unknownValue code body) = []
 
 -- 3: each payload's length
 unfoldable pub payloadsWithin : MessageValue → Bool
@@ -112,7 +112,7 @@ codeFree (syncInfoValue body) = true
 
 unfoldable pub messageAsked : ℕ → MessageValue → List Question
 messageAsked cap m =
-    entriesAsked (entriesOf m)
+    entriesAsked (messageEntries m)
     ++ (ask 3 (payloadsWithin m)
     ∷ ask 10 (countWithin cap m)
     ∷ ask 7 (leb (length (bodyBytes m)) limit)

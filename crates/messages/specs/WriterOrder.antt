@@ -15,11 +15,11 @@ use Rattle.wire.specs.declared.Written.the-variants.{To, Refused}
 use Rattle.vlq.specs.Vlq.{limit}
 use Rattle.types.specs.declared.Network.{Network}
 use Rattle.handshake.specs.Value.{entryBytes, handshakeBytes, shortStrings, utf8Strings, fewFeatures, lengthsWithin, entriesAsked}
-use Rattle.handshake.specs.Tables.{Lent, tablesWhole}
-use Rattle.handshake.specs.Writes.{entryAt, rowInside, entryWritten, handshakeAt, handshakeWritten, Config, built, builtWritten}
+use Rattle.handshake.specs.Tables.{Tables, tablesWhole}
+use Rattle.handshake.specs.Writes.{entryAtRow, rowInside, entryWritten, handshakeAtRow, handshakeWritten, Config, built, builtWritten}
 use Rattle.frame.specs.Frame.{frameBytes}
 use Rattle.frame.specs.Writes.{frameWritten}
-use Rattle.messages.specs.Value.{bodyBytes, entriesOf, payloadsWithin, countWithin, codeFree, messageAsked}
+use Rattle.messages.specs.Value.{bodyBytes, messageEntries, payloadsWithin, countWithin, codeFree, messageAsked}
 use Rattle.messages.specs.Writes.{MessageWrite, valueOf, messageWhole, messageInside, messageBytes, messageWritten}
 
 -- ---- the questions
@@ -31,10 +31,10 @@ module _ (out : List ℕ) (at : ℕ) where
       ask 16 (messageWhole w)  -- every row of every table, written or not
       ∷ ask 12 (leb at (length out))  -- the place in the output
       ∷ ask 12 (messageInside w)  -- every written part in the buffer, every written feature row in its table
-      ∷ ask 13 (every shortStrings (entriesOf (valueOf w)))  -- agents and names have at most 255 bytes
-      ∷ ask 4 (every utf8Strings (entriesOf (valueOf w)))  -- agents and names are UTF-8
-      ∷ ask 15 (every fewFeatures (entriesOf (valueOf w)))  -- an entry has at most 255 features
-      ∷ ask 3 (every lengthsWithin (entriesOf (valueOf w)))  -- each feature's length
+      ∷ ask 13 (every shortStrings (messageEntries (valueOf w)))  -- agents and names have at most 255 bytes
+      ∷ ask 4 (every utf8Strings (messageEntries (valueOf w)))  -- agents and names are UTF-8
+      ∷ ask 15 (every fewFeatures (messageEntries (valueOf w)))  -- an entry has at most 255 features
+      ∷ ask 3 (every lengthsWithin (messageEntries (valueOf w)))  -- each feature's length
       ∷ ask 3 (payloadsWithin (valueOf w))  -- each payload's length
       ∷ ask 10 (countWithin cap (valueOf w))  -- at most 400 ids or payloads, entries at most the cap
       ∷ ask 7 (leb (length (bodyBytes (valueOf w))) limit)  -- the body
@@ -43,24 +43,24 @@ module _ (out : List ℕ) (at : ℕ) where
       ∷ []
 
   -- row k of a table, written as these bytes
-  abbrev pub rowQuestions : Lent → ℕ → List ℕ → List Question
+  abbrev pub rowQuestions : Tables → ℕ → List ℕ → List Question
   rowQuestions l k bytes =
       ask 16 (tablesWhole l)  -- every row of both tables, written or not
       ∷ ask 12 (leb at (length out))  -- the place in the output
       ∷ ask 12 (rowInside l k)  -- row k in its table, its parts in the buffer, its feature rows in their table
-      ∷ ask 13 (every shortStrings (entryAt l k ∷ []))  -- agent and name have at most 255 bytes
-      ∷ ask 4 (every utf8Strings (entryAt l k ∷ []))  -- agent and name are UTF-8
-      ∷ ask 15 (every fewFeatures (entryAt l k ∷ []))  -- at most 255 features
-      ∷ ask 3 (every lengthsWithin (entryAt l k ∷ []))  -- each feature's length
+      ∷ ask 13 (every shortStrings (entryAtRow l k ∷ []))  -- agent and name have at most 255 bytes
+      ∷ ask 4 (every utf8Strings (entryAtRow l k ∷ []))  -- agent and name are UTF-8
+      ∷ ask 15 (every fewFeatures (entryAtRow l k ∷ []))  -- at most 255 features
+      ∷ ask 3 (every lengthsWithin (entryAtRow l k ∷ []))  -- each feature's length
       ∷ ask 14 (leb (at + length bytes) (length out))  -- room in the output
       ∷ []
 
   -- an entry, and a timestamp with an entry
-  abbrev pub entryQuestions : Lent → ℕ → List Question
-  entryQuestions l k = rowQuestions l k (entryBytes (entryAt l k))
+  abbrev pub entryQuestions : Tables → ℕ → List Question
+  entryQuestions l k = rowQuestions l k (entryBytes (entryAtRow l k))
 
-  abbrev pub handshakeQuestions : ℕ → Lent → ℕ → List Question
-  handshakeQuestions timestamp l k = rowQuestions l k (handshakeBytes (handshakeAt timestamp l k))
+  abbrev pub handshakeQuestions : ℕ → Tables → ℕ → List Question
+  handshakeQuestions timestamp l k = rowQuestions l k (handshakeBytes (handshakeAtRow timestamp l k))
 
   -- `build`, which has no tables: its strings are slices
   abbrev pub builtQuestions : Config → List Question
@@ -95,14 +95,14 @@ module _ (out : List ℕ) (at : ℕ) where
   unfolding messageWritten written messageAsked entriesAsked
   message-order network cap w = record { answer = refl; numbered = refl }
 
-  pub entry-order : (l : Lent) (k : ℕ) → Asks
-      (entryWritten l k out at) (entryQuestions out at l k) (at + length (entryBytes (entryAt l k)))
+  pub entry-order : (l : Tables) (k : ℕ) → Asks
+      (entryWritten l k out at) (entryQuestions out at l k) (at + length (entryBytes (entryAtRow l k)))
       (16 ∷ 12 ∷ 12 ∷ 13 ∷ 4 ∷ 15 ∷ 3 ∷ 14 ∷ [])
   unfolding entryWritten written entriesAsked
   entry-order l k = record { answer = refl; numbered = refl }
 
-  pub handshake-order : (timestamp : ℕ) (l : Lent) (k : ℕ) → Asks
-      (handshakeWritten timestamp l k out at) (handshakeQuestions out at timestamp l k) (at + length (handshakeBytes (handshakeAt timestamp l k)))
+  pub handshake-order : (timestamp : ℕ) (l : Tables) (k : ℕ) → Asks
+      (handshakeWritten timestamp l k out at) (handshakeQuestions out at timestamp l k) (at + length (handshakeBytes (handshakeAtRow timestamp l k)))
       (16 ∷ 12 ∷ 12 ∷ 13 ∷ 4 ∷ 15 ∷ 3 ∷ 14 ∷ [])
   unfolding handshakeWritten written entriesAsked
   handshake-order timestamp l k = record { answer = refl; numbered = refl }

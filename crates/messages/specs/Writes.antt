@@ -8,7 +8,7 @@ use Rattle.wire.specs.Output.{ask, written}
 use Rattle.wire.specs.declared.Written.{Written}
 use Rattle.types.specs.declared.Network.{Network}
 use Rattle.frame.specs.Frame.{frameBytes}
-use Rattle.handshake.specs.Tables.{Lent, rows, bytesAt, entryRows, entriesOf, wholeRows, tablesWhole, inside, entryInside}
+use Rattle.handshake.specs.Tables.{Tables, rows, bytesAt, entryRows, entriesOf, wholeRows, tablesWhole, inside, entryInside}
 use Rattle.messages.specs.Value.{PayloadValue, MessageValue, getPeersValue, peersValue, modifierRequestValue, modifierResponseValue, invValue, syncInfoValue, unknownValue, codeOf, bodyBytes, messageAsked}
 use Rattle.messages.specs.declared.PayloadRow.{PayloadRow}
 
@@ -32,8 +32,8 @@ payloadRow t k = record { id = getD t (payloadRowSize * k) 0; at = getD t (paylo
 abbrev pub payloadRows : List ℕ → List PayloadRow
 payloadRows t = rows (payloadRow t) 0 (length t / payloadRowSize)
 
-unfoldable pub payloadOf : List ℕ → PayloadRow → PayloadValue
-payloadOf buffer r = record { id = bytesAt buffer (r .id) 32; body = bytesAt buffer (r .at) (r .len) }
+unfoldable pub payloadFromRow : List ℕ → PayloadRow → PayloadValue
+payloadFromRow buffer r = record { id = bytesAt buffer (r .id) 32; body = bytesAt buffer (r .at) (r .len) }
 
 unfoldable pub payloadInside : List ℕ → PayloadRow → Bool
 payloadInside buffer r = inside buffer (r .id) 32 && inside buffer (r .at) (r .len)
@@ -42,7 +42,7 @@ payloadInside buffer r = inside buffer (r .id) 32 && inside buffer (r .at) (r .l
 
 pub data MessageWrite : Type 0 where
   writeGetPeers : MessageWrite
-  writePeers : Lent → MessageWrite
+  writePeers : Tables → MessageWrite
   -- a type byte, a table and the buffer
   writeModifierRequest : ℕ → List ℕ → List ℕ → MessageWrite
   writeModifierResponse : ℕ → List ℕ → List ℕ → MessageWrite
@@ -53,9 +53,9 @@ pub data MessageWrite : Type 0 where
 
 unfoldable pub valueOf : MessageWrite → MessageValue
 valueOf writeGetPeers = getPeersValue
-valueOf (writePeers l) = peersValue (entriesOf l)
+valueOf (writePeers ts) = peersValue (entriesOf ts)
 valueOf (writeModifierRequest type ids buffer) = modifierRequestValue type (idsOf ids buffer)
-valueOf (writeModifierResponse type payloads buffer) = modifierResponseValue type (map (payloadOf buffer) (payloadRows payloads))
+valueOf (writeModifierResponse type payloads buffer) = modifierResponseValue type (map (payloadFromRow buffer) (payloadRows payloads))
 valueOf (writeInv type ids buffer) = invValue type (idsOf ids buffer)
 valueOf (writeSyncInfo body) = syncInfoValue body
 valueOf (writeUnknown code body) = unknownValue code body
@@ -63,7 +63,7 @@ valueOf (writeUnknown code body) = unknownValue code body
 -- 16: whole rows, and every row's numbers
 unfoldable pub messageWhole : MessageWrite → Bool
 messageWhole writeGetPeers = true
-messageWhole (writePeers l) = tablesWhole l
+messageWhole (writePeers ts) = tablesWhole ts
 messageWhole (writeModifierRequest type ids buffer) = true
 messageWhole (writeModifierResponse type payloads buffer) = wholeRows payloadRowSize payloads
 messageWhole (writeInv type ids buffer) = true
@@ -73,7 +73,7 @@ messageWhole (writeUnknown code body) = true
 -- 12: each written part in the buffer
 unfoldable pub messageInside : MessageWrite → Bool
 messageInside writeGetPeers = true
-messageInside (writePeers l) = every (entryInside l) (entryRows l)
+messageInside (writePeers ts) = every (entryInside ts) (entryRows ts)
 messageInside (writeModifierRequest type ids buffer) = every (λ at. inside buffer at 32) (idPlaces ids)
 messageInside (writeModifierResponse type payloads buffer) = every (payloadInside buffer) (payloadRows payloads)
 messageInside (writeInv type ids buffer) = every (λ at. inside buffer at 32) (idPlaces ids)

@@ -3,18 +3,18 @@ use Prim.Native.Nat.{ℕ}
 use mathlib.Core.Bool.{cond}
 use lib.Dec.{leb}
 use Rattle.wire.specs.Reader.{Answer, got, refused, bind}
-use Rattle.messages.specs.Message.{maxInvObjects, Header}
-use Rattle.messages_body_reader.specs.declared.HeaderRead.{HeaderRead}
-use Rattle.messages_body_reader.specs.declared.HeaderRead.the-variants as HeaderReads
+use Rattle.messages.specs.Message.{maxInvObjects, InventoryHeader}
+use Rattle.messages_body_reader.specs.declared.InventoryHeaderRead.{InventoryHeaderRead}
+use Rattle.messages_body_reader.specs.declared.InventoryHeaderRead.the-variants as InventoryHeaderReads
 
 -- what the code's answer means
-abbrev pub headerAnswer : HeaderRead → Answer Header
-headerAnswer (HeaderReads.Value h p) = got (record { type = h .kind; count = h .count }) (p .0)
-headerAnswer (HeaderReads.Refused m) = refused m
+abbrev pub inventoryHeaderAnswer : InventoryHeaderRead → Answer InventoryHeader
+inventoryHeaderAnswer (InventoryHeaderReads.Value h p) = got (record { type = h .«modifier_type»; count = h .count }) (p .0)
+inventoryHeaderAnswer (InventoryHeaderReads.Refused m) = refused m
 
 -- ---- Only for laws, proofs and private functions: no public contract and no theorem cites what follows.
 
 -- `header` from the answers of the byte and of the VLQ after it
-abbrev pub headerOf : Answer ℕ → Answer ℕ → Answer Header
-headerOf kind count =
-    bind kind (λ type _. bind count (λ n next. cond (leb n maxInvObjects) (got (record { type = type; count = n }) next) (refused 10)))
+abbrev pub headerOf : Answer ℕ → Answer ℕ → Answer InventoryHeader
+headerOf modifierType count =
+    bind modifierType (λ type _. bind count (λ n next. cond (leb n maxInvObjects) (got (record { type = type; count = n }) next) (refused 10)))

@@ -8,7 +8,7 @@ use lib.Dec.{leb}
 use Rattle.wire.specs.Reader.{Answer, got, refused, bind, byte}
 use Rattle.vlq.specs.Vlq.{vlqLength}
 use Rattle.types.specs.declared.BodyPlace.{BodyPlace}
-use Rattle.messages.specs.Message.{maxInvObjects, count, Header, header}
+use Rattle.messages.specs.Message.{maxInvObjects, count, InventoryHeader, inventoryHeader}
 use Rattle.messages_body_reader.specs.declared.BodyReader.{BodyReader}
 use Rattle.messages_body_reader.specs.Reading.{placeAfter, readBy, movedBy}
 use Rattle.messages_body_reader.specs.Header.{headerOf}
@@ -16,7 +16,7 @@ use Rattle.messages_body_reader.specs.Header.{headerOf}
 abbrev counted : Answer ℕ → Answer ℕ
 counted c = bind c (λ n next. cond (leb n maxInvObjects) (got n next) (refused 10))
 
-abbrev headed : ℕ → Answer ℕ → Answer Header
+abbrev headed : ℕ → Answer ℕ → Answer InventoryHeader
 headed type c = bind c (λ n next. got (record { type = type; count = n }) next)
 
 -- after any second answer
@@ -33,6 +33,6 @@ after-answer : (s : List ℕ) (at : BodyPlace) (a : Answer ℕ) → headerOf a (
 after-answer s at (got type next) = after-count type next (vlqLength s next)
 after-answer s at (refused m) = refl
 
-pub header-reads : (r : BodyReader) → headerOf (readBy byte r) (readBy vlqLength (movedBy byte r)) ≡ header (now (r .body)) (r .at .0)
-unfolding header count
+pub header-reads : (r : BodyReader) → headerOf (readBy byte r) (readBy vlqLength (movedBy byte r)) ≡ inventoryHeader (now (r .body)) (r .at .0)
+unfolding inventoryHeader count
 header-reads r = after-answer (now (r .body)) (r .at) (readBy byte r)

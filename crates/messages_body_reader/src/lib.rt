@@ -5,8 +5,8 @@ ghost use Rattle.vlq.specs.Vlq.{vlq, vlqLength};
 ghost use Rattle.vlq.specs.ShortString.{shortString};
 ghost use Rattle.vlq.specs.Answers.{byteAnswer, vlqAnswer, partAnswer};
 ghost use Rattle.messages_body_reader.specs.Reading.{placeAfter, readBy, movedBy, mapped};
-ghost use Rattle.messages.specs.Message.{header};
-ghost use Rattle.messages_body_reader.specs.Header.{headerAnswer, headerOf};
+ghost use Rattle.messages.specs.Message.{inventoryHeader};
+ghost use Rattle.messages_body_reader.specs.Header.{inventoryHeaderAnswer, headerOf};
 use messages::MAX_INV_OBJECTS;
 use types::BodyPlace;
 use vlq::ByteRead;
@@ -76,42 +76,48 @@ impl<'a> BodyReader<'a> {
 
 // What stands at the start of an Inv, a ModifierRequest and a ModifierResponse body: the type byte and the count.
 pub struct InventoryHeader {
-    pub kind: u8,
+    pub modifier_type: u8,
     pub count: u64,
 }
 
-pub enum HeaderRead {
+pub enum InventoryHeaderRead {
     Value(InventoryHeader, BodyPlace),
     Refused(u8),
 }
 
 // Reads the header of such a body. Its parameter is a plain slice, so a caller needs no proof by hand.
-pub fn inventory_header(body: &[u8]) -> HeaderRead
-    ensures { λ r. ⌜ headerAnswer r ≡ header (now (body .entry)) 0 ⌝ }
+pub fn inventory_header(body: &[u8]) -> InventoryHeaderRead
+    ensures { λ r. ⌜ inventoryHeaderAnswer r ≡ inventoryHeader (now (body .entry)) 0 ⌝ }
 {
     let mut reader = BodyReader::new(body, BodyPlace(0));
-    let kind = reader.read_byte();
+    let modifier_type = reader.read_byte();
     let count = reader.read_vlq_length();
-    header_of(kind, count)
+    header_of(modifier_type, count)
 }
 
 // The header of the two answers. Where the byte was refused the reader had stayed, and the second answer is not looked at.
-fn header_of(kind: ByteRead, count: VlqRead) -> HeaderRead
-    ensures { λ r. ⌜ headerAnswer r ≡ headerOf (byteAnswer kind) (vlqAnswer count) ⌝ }
+fn header_of(modifier_type: ByteRead, count: VlqRead) -> InventoryHeaderRead
+    ensures { λ r. ⌜ inventoryHeaderAnswer r ≡ headerOf (byteAnswer «modifier_type») (vlqAnswer count) ⌝ }
 {
-    match kind {
+    match modifier_type {
         ByteRead::Value(k, _) => match count {
             VlqRead::Value(n, c) => {
                 if n <= MAX_INV_OBJECTS as u64 {
                     let at = c.at;
-                    HeaderRead::Value(InventoryHeader { kind: k, count: n }, BodyPlace(at))
+                    InventoryHeaderRead::Value(
+                        InventoryHeader {
+                            modifier_type: k,
+                            count: n,
+                        },
+                        BodyPlace(at),
+                    )
                 } else {
-                    HeaderRead::Refused(10)
+                    InventoryHeaderRead::Refused(10)
                 }
             }
-            VlqRead::Refused(m) => HeaderRead::Refused(m),
+            VlqRead::Refused(m) => InventoryHeaderRead::Refused(m),
         },
-        ByteRead::Refused(m) => HeaderRead::Refused(m),
+        ByteRead::Refused(m) => InventoryHeaderRead::Refused(m),
     }
 }
 

@@ -15,21 +15,21 @@ use Rattle.wire.specs.ReaderLaws.{part-got, part-at, length-part, map-value, ma
 use Rattle.wire.specs.ListOfLaws.{listed}
 use Rattle.wire.specs.declared.Part.{Part}
 use Rattle.vlq.specs.Vlq.{vlqLength}
-use Rattle.messages.specs.Message.{Header, header, payloadAfter}
-use Rattle.messages_inventory_read.specs.Parts.{endOf, Items, items, itemsStart, itemOf, itemAt, idAt}
+use Rattle.messages.specs.Message.{InventoryHeader, inventoryHeader, payloadAfter}
+use Rattle.messages_inventory_read.specs.Parts.{endOf, Items, items, itemsStart, itemByIndex, itemAt, idAt}
 use Rattle.messages_inventory_read.specs.PartsLaws.{header-ends, items-read, ids-there, ids-missing, item-outside}
 use Rattle.messages_inventory_read.specs.Answers.{inventoryIn, idOf, payloadSum}
 use Rattle.messages_inventory_read.specs.declared.Inventory.{Inventory}
 
 -- ---- a type byte, a count and items
 
-module _ {A : Type 0} (p : List A → Reader A) (s : List ℕ) {h : Header} {at : ℕ} (q : header s 0 ≡ got h at) where
+module _ {A : Type 0} (p : List A → Reader A) (s : List ℕ) {h : InventoryHeader} {at : ℕ} (q : inventoryHeader s 0 ≡ got h at) where
   items-start : itemsStart s ≡ at
   unfolding itemsStart
   items-start = ap endOf q
 
   pub items-got : {l : List A} {e : ℕ} → listOf (h .count) p s at ≡ got l e
-      → got (record { kind = h .type; count = h .count; start = record { 0 = at } }) e ≡ mapAnswer (inventoryIn s) (items p s 0)
+      → got (record { «modifier_type» = h .type; count = h .count; start = record { 0 = at } }) e ≡ mapAnswer (inventoryIn s) (items p s 0)
   unfolding items
   items-got {l} {e} r = rw (q, r, map-value, items-start, listed p s (h .count) at r .0)
 
@@ -55,11 +55,11 @@ module _ {A : Type 0} (p : List A → Reader A) (k : ℕ) (s : List ℕ) where
     item-past h = rw q (item-outside p s (length (i .list)) k (itemsStart s) (omega (arith, number)))
 
     pub item-after : {l : List A} {at : ℕ} → k < v .count → listOf k p s (v .start .0) ≡ got l at → itemAt k p s ≡ p l s at
-    unfolding itemAt itemOf
+    unfolding itemAt itemByIndex
     item-after h r = rw (q, number, lt-ltb k (v .count) h, first, r)
 
     pub item-not-after : {m : ℕ} → k < v .count → listOf k p s (v .start .0) ≡ refused m → itemAt k p s ≡ refused m
-    unfolding itemAt itemOf
+    unfolding itemAt itemByIndex
     item-not-after h r = rw (q, number, lt-ltb k (v .count) h, first, r)
 
 -- ---- ids

@@ -4,7 +4,7 @@ use mathlib.Core.List.{List}
 use lib.ListN.{length}
 use Rattle.wire.specs.Reader.{Answer, got, refused, Segment}
 use Rattle.messages.specs.Message as Bodies
-use Rattle.messages.specs.Message.{Header}
+use Rattle.messages.specs.Message.{InventoryHeader}
 use Rattle.messages_inventory_read.specs.Parts.{Items, itemsStart}
 use Rattle.messages_inventory_read.specs.declared.Inventory.{Inventory}
 use Rattle.messages_inventory_read.specs.declared.Payload.{Payload}
@@ -12,8 +12,8 @@ use Rattle.messages_inventory_read.specs.declared.IdRead.{IdRead}
 use Rattle.messages_inventory_read.specs.declared.IdRead.the-variants as IdReads
 use Rattle.messages_inventory_read.specs.declared.PayloadRead.{PayloadRead}
 use Rattle.messages_inventory_read.specs.declared.PayloadRead.the-variants as PayloadReads
-use Rattle.messages_inventory_read.specs.declared.PayloadAt.{PayloadAt}
-use Rattle.messages_inventory_read.specs.declared.PayloadAt.the-variants as PayloadAts
+use Rattle.messages_inventory_read.specs.declared.PayloadByIndexRead.{PayloadByIndexRead}
+use Rattle.messages_inventory_read.specs.declared.PayloadByIndexRead.the-variants as PayloadByIndexReads
 use Rattle.messages_inventory_read.specs.declared.CountRead.{CountRead}
 use Rattle.messages_inventory_read.specs.declared.CountRead.the-variants as CountReads
 use Rattle.messages_inventory_read.specs.declared.HeaderRead.{HeaderRead}
@@ -26,7 +26,7 @@ use Rattle.messages_inventory_read.specs.declared.SumRead.the-variants a
 -- ---- what is given of a reading of the body s
 
 abbrev pub inventoryOf : {A : Type 0} → List ℕ → ℕ → List A → Inventory
-inventoryOf s type l = record { kind = type; count = length l; start = record { 0 = itemsStart s } }
+inventoryOf s type l = record { «modifier_type» = type; count = length l; start = record { 0 = itemsStart s } }
 
 abbrev pub inventoryIn : {A : Type 0} → List ℕ → Items A → Inventory
 inventoryIn s i = inventoryOf s (i .type) (i .list)
@@ -53,9 +53,9 @@ abbrev pub payloadAnswer : PayloadRead → Answer (Payload × ℕ)
 payloadAnswer (PayloadReads.Value p end total) = got (p, total) (end .0)
 payloadAnswer (PayloadReads.Refused m) = refused m
 
-abbrev pub payloadAtAnswer : PayloadAt → Answer Payload
-payloadAtAnswer (PayloadAts.Value p end) = got p (end .0)
-payloadAtAnswer (PayloadAts.Refused m) = refused m
+abbrev pub payloadByIndexAnswer : PayloadByIndexRead → Answer Payload
+payloadByIndexAnswer (PayloadByIndexReads.Value p end) = got p (end .0)
+payloadByIndexAnswer (PayloadByIndexReads.Refused m) = refused m
 
 abbrev pub countAnswer : CountRead → Answer ℕ
 countAnswer (CountReads.Value n c) = got n (c .at)
@@ -68,8 +68,8 @@ inventoryAnswer (InventoryReads.Refused m) = refused m
 -- ---- Only for laws, proofs and private functions: no public contract and no theorem cites what follows.
 
 -- a header ends at the place of the first item
-abbrev pub headerAnswer : HeaderRead → Answer Header
-headerAnswer (HeaderReads.Value i) = got (record { type = i .kind; count = i .count }) (i .start .0)
+abbrev pub headerAnswer : HeaderRead → Answer InventoryHeader
+headerAnswer (HeaderReads.Value i) = got (record { type = i .«modifier_type»; count = i .count }) (i .start .0)
 headerAnswer (HeaderReads.Refused m) = refused m
 
 abbrev pub sumAnswer : SumRead → Answer ℕ

@@ -5,13 +5,13 @@ use mathlib.Core.Path.{_≡_, refl}
 use lib.ListN.{replicate}
 use Rattle.wire.specs.Reader.{Answer, got, refused, Segment, fold, listOf}
 use Rattle.vlq.specs.Vlq.{groups, vlq, vlqLength}
-use Rattle.messages.specs.Message.{Payload, count, header, total, payloadAfter, payload}
-use Rattle.messages_inventory_read.specs.Answers.{idAnswer, payloadAnswer, payloadAtAnswer}
+use Rattle.messages.specs.Message.{Payload, count, inventoryHeader, total, payloadAfter, payload}
+use Rattle.messages_inventory_read.specs.Answers.{idAnswer, payloadAnswer, payloadByIndexAnswer}
 use Rattle.messages_inventory_read.specs.declared.Payload as Given
 use Rattle.messages_inventory_read.specs.declared.IdRead.the-variants as IdReads
 use Rattle.messages_inventory_read.specs.declared.PayloadRead.the-variants as PayloadReads
-use Rattle.messages_inventory_read.specs.declared.PayloadAt.the-variants as PayloadAts
-use Rattle.messages_inventory_read.specs.Parts.{items, itemsStart, itemOf, itemAt, idAt, payloadAt}
+use Rattle.messages_inventory_read.specs.declared.PayloadByIndexRead.the-variants as PayloadByIndexReads
+use Rattle.messages_inventory_read.specs.Parts.{items, itemsStart, itemByIndex, itemAt, idAt, payloadAt}
 
 pub record Case (A : Type 0) : Type 0 where
   pub index : ℕ
@@ -38,7 +38,7 @@ idCases =
     ∷ []
 
 pub all-ids : map (λ (c : Case Segment). idAt (c .index) (c .body)) idCases ≡ map (λ (c : Case Segment). c .answer) idCases
-unfolding idCases idAt itemAt itemOf items itemsStart header count fold listOf groups vlq vlqLength
+unfolding idCases idAt itemAt itemByIndex items itemsStart inventoryHeader count fold listOf groups vlq vlqLength
 all-ids = refl
 
 abbrev found : ℕ → ℕ → List ℕ → ℕ → Answer Payload
@@ -62,7 +62,7 @@ payloadCases =
     ∷ []
 
 pub all-payloads : map (λ (c : Case Payload). payloadAt (c .index) (c .body)) payloadCases ≡ map (λ (c : Case Payload). c .answer) payloadCases
-unfolding payloadCases payloadAt itemAt itemOf items itemsStart header count total payloadAfter payload fold listOf groups vlq vlqLength
+unfolding payloadCases payloadAt itemAt itemByIndex items itemsStart inventoryHeader count total payloadAfter payload fold listOf groups vlq vlqLength
 all-payloads = refl
 
 -- ---- what the code's answers mean
@@ -70,8 +70,8 @@ all-payloads = refl
 pub all-answers : (p : Given.Payload) →
     (idAnswer (IdReads.Value (record { 0 = 5 })) ≡ got 5 37)
     × (idAnswer (IdReads.Refused 3) ≡ refused 3)
-    × (payloadAtAnswer (PayloadAts.Value p (record { 0 = 6 })) ≡ got p 6)
-    × (payloadAtAnswer (PayloadAts.Refused 4) ≡ refused 4)
+    × (payloadByIndexAnswer (PayloadByIndexReads.Value p (record { 0 = 6 })) ≡ got p 6)
+    × (payloadByIndexAnswer (PayloadByIndexReads.Refused 4) ≡ refused 4)
     × (payloadAnswer (PayloadReads.Value p (record { 0 = 7 }) 8) ≡ got (p, 8) 7)
     × (payloadAnswer (PayloadReads.Refused 5) ≡ refused 5)
 all-answers p = (refl, refl, refl, refl, refl, refl)

@@ -6,7 +6,7 @@ use mathlib.Core.List.{List}
 use lib.Dec.{ltb}
 use lib.ListN.{length}
 use Rattle.wire.specs.Reader.{Answer, got, refused, Reader, bind, pure, andThen, Segment, part, listOf}
-use Rattle.messages.specs.Message.{Payload, header, payload}
+use Rattle.messages.specs.Message.{Payload, inventoryHeader, payload}
 
 -- where what was read ends; 0 if it was refused
 abbrev pub endOf : {A : Type 0} → Answer A → ℕ
@@ -22,7 +22,7 @@ pub record Items (A : Type 0) : Type 0 where
 -- type byte, count, items
 unfoldable pub items : {A : Type 0} → (List A → Reader A) → Reader (Items A)
 items p =
-    andThen header (λ h.
+    andThen inventoryHeader (λ h.
     andThen (listOf (h .count) p) (λ l.
     pure (record { type = h .type; list = l })))
 
@@ -30,18 +30,18 @@ items p =
 
 -- after the type byte and the count
 unfoldable pub itemsStart : List ℕ → ℕ
-itemsStart s = endOf (header s 0)
+itemsStart s = endOf (inventoryHeader s 0)
 
 -- ---- by index, once what it counts in has been read without refusal
 
 -- of n items the one with an index: it is read after those before it
 -- Is the index inside? 12
-unfoldable pub itemOf : {A : Type 0} → ℕ → ℕ → (List A → Reader A) → Reader A
-itemOf n index p s at = cond (ltb index n) (andThen (listOf index p) p s at) (refused 12)
+unfoldable pub itemByIndex : {A : Type 0} → ℕ → ℕ → (List A → Reader A) → Reader A
+itemByIndex n index p s at = cond (ltb index n) (andThen (listOf index p) p s at) (refused 12)
 
 -- of a body's items
 unfoldable pub itemAt : {A : Type 0} → ℕ → (List A → Reader A) → List ℕ → Answer A
-itemAt index p s = bind (items p s 0) (λ i next. itemOf (length (i .list)) index p s (itemsStart s))
+itemAt index p s = bind (items p s 0) (λ i next. itemByIndex (length (i .list)) index p s (itemsStart s))
 
 unfoldable pub idAt : ℕ → List ℕ → Answer Segment
 idAt index s = itemAt index (λ before. part 32) s

@@ -18,8 +18,8 @@ use Rattle.wire.specs.Stable.{Stable}
 use Rattle.wire.specs.StableLaws.{stable-ends, stable-then, stable-pure, stable-guard, stable-byte}
 use Rattle.vlq.specs.Vlq.{vlqLength}
 use Rattle.vlq.specs.VlqLaws.{stable-vlqLength}
-use Rattle.messages.specs.Message.{Message, modifierResponse, maxInvObjects, count, Header, header, ids, payload, payloads}
-use Rattle.messages_inventory_read.specs.Parts.{endOf, Items, items, itemsStart, itemOf, itemAt}
+use Rattle.messages.specs.Message.{Message, modifierResponse, maxInvObjects, count, InventoryHeader, inventoryHeader, ids, payload, payloads}
+use Rattle.messages_inventory_read.specs.Parts.{endOf, Items, items, itemsStart, itemByIndex, itemAt}
 
 -- ---- counts
 
@@ -35,30 +35,30 @@ count-got cap s at {n} {e} q = go (vlqLength s at) refl q
         test false t q = no-answer q
     go (refused m) h q = no-answer q
 
-abbrev opened : ℕ → ℕ → Header
+abbrev opened : ℕ → ℕ → InventoryHeader
 opened type n = record { type = type; count = n }
 
 -- the numbers that count as a cut play no part
 none : ℕ → Bool
 none m = true
 
-stable-header : Stable none header
-unfolding header count none
+stable-header : Stable none inventoryHeader
+unfolding inventoryHeader count none
 stable-header =
     stable-then (stable-byte tt) (λ type.
     stable-then (stable-then (stable-vlqLength tt) (λ n. stable-guard (leb n maxInvObjects) 10 n)) (λ n.
     stable-pure (opened type n)))
 
 -- a header ends in the body, and its count is at most 400
-pub header-ends : (s : List ℕ) {h : Header} {at : ℕ} → header s 0 ≡ got h at → at ≤ length s
+pub header-ends : (s : List ℕ) {h : InventoryHeader} {at : ℕ} → inventoryHeader s 0 ≡ got h at → at ≤ length s
 header-ends s {h} {at} q = stable-ends stable-header s 0 h at (omega arith) q
 
-pub header-counts : (s : List ℕ) {h : Header} {at : ℕ} → header s 0 ≡ got h at → h .count ≤ maxInvObjects
-unfolding header
+pub header-counts : (s : List ℕ) {h : InventoryHeader} {at : ℕ} → inventoryHeader s 0 ≡ got h at → h .count ≤ maxInvObjects
+unfolding inventoryHeader
 header-counts s q =
     let a = bind-got (byte s 0) (λ t m. bind (count maxInvObjects s m) (λ n e. got (opened t n) e)) q in
     let b = bind-got (count maxInvObjects s (a .next)) (λ n e. got (opened (a .value) n) e) (a .rest) in
-    rw (← ap (λ (h : Header). h .count) (value-of (b .rest))) (count-got maxInvObjects s (a .next) (b .answer) .1)
+    rw (← ap (λ (h : InventoryHeader). h .count) (value-of (b .rest))) (count-got maxInvObjects s (a .next) (b .answer) .1)
 
 -- ---- ids
 
@@ -110,12 +110,12 @@ ids-missing n s at h g = some-missing n [] s at h g
 module _ {A : Type 0} (p : List A → Reader A) (s : List ℕ) where
   -- of n items that are read, the one with an index inside is the one at that place of the list; outside 12
   pub item-inside : (n k at : ℕ) {l : List A} {e : ℕ} → listOf n p s at ≡ got l e → k < n
-      → (i : Indexed p s at k l) × (itemOf n k p s at ≡ got (i .value) (i .next))
-  unfolding itemOf
+      → (i : Indexed p s at k l) × (itemByIndex n k p s at ≡ got (i .value) (i .next))
+  unfolding itemByIndex
   item-inside n k at q h = let c = listed p s n at q in let i = indexed p s k (c .1) (omega (arith, c .0)) in (i, rw (lt-ltb k n h, i .skipped) (i .read))
 
-  pub item-outside : (n k at : ℕ) → n ≤ k → itemOf n k p s at ≡ refused 12
-  unfolding itemOf
+  pub item-outside : (n k at : ℕ) → n ≤ k → itemByIndex n k p s at ≡ refused 12
+  unfolding itemByIndex
   item-outside n k at h = rw (le-ltb k n h)
 
 -- ---- bodies
@@ -128,10 +128,10 @@ module _ {A : Type 0} (p : List A → Reader A) (make : ℕ → List A → Messa
   abbrev made : Items A → Message
   made i = make (i .type) (i .list)
 
-  items-made : (at : ℕ) → andThen header (λ h. andThen (listOf (h .count) p) (λ l. pure (make (h .type) l))) s at ≡ mapAnswer made (items p s at)
+  items-made : (at : ℕ) → andThen inventoryHeader (λ h. andThen (listOf (h .count) p) (λ l. pure (make (h .type) l))) s at ≡ mapAnswer made (items p s at)
   unfolding items mapAnswer
   items-made at =
-      bind-step (header s at)
+      bind-step (inventoryHeader s at)
       (λ h m. bind (listOf (h .count) p s m) (λ l e. got (make (h .type) l) e))
       (λ h m. bind (listOf (h .count) p s m) (λ l e. got (itemised (h .type) l) e))
       (λ i e. got (made i) e)
@@ -155,8 +155,8 @@ payloads-items size s at = items-made (payload size) modifierResponse s at
 -- ---- bodies that are read
 
 pub record ItemsRead {A : Type 0} (p : List A → Reader A) (s : List ℕ) (i : Items A) (e : ℕ) : Type 0 where
-  pub opening : Header
-  pub opened : header s 0 ≡ got opening (itemsStart s)
+  pub opening : InventoryHeader
+  pub opened : inventoryHeader s 0 ≡ got opening (itemsStart s)
   pub taken : listOf (opening .count) p s (itemsStart s) ≡ got (i .list) e
 
 taken-as : {A : Type 0} (p : List A → Reader A) (s : List ℕ) (n : ℕ) {at at′ m e : ℕ} {l l′ : List A} → at ≡ at′ → l ≡ l′ → m ≡ e
@@ -166,9 +166,9 @@ taken-as p s n a b c q = rw (← a, ← b, ← c) q
 pub items-read : {A : Type 0} (p : List A → Reader A) (s : List ℕ) {i : Items A} {e : ℕ} → items p s 0 ≡ got i e → ItemsRead p s i e
 unfolding items itemsStart
 items-read {A} p s {i} {e} q =
-    let a = bind-got (header s 0) (λ h m. bind (listOf (h .count) p s m) (λ l m. got (itemised (h .type) l) m)) q in
+    let a = bind-got (inventoryHeader s 0) (λ h m. bind (listOf (h .count) p s m) (λ l m. got (itemised (h .type) l) m)) q in
     let b = bind-got (listOf (a .value .count) p s (a .next)) (λ l m. got (itemised (a .value .type) l) m) (a .rest) in
-    let start : a .next ≡ endOf (header s 0) = sym (ap endOf (a .answer)) in
+    let start : a .next ≡ endOf (inventoryHeader s 0) = sym (ap endOf (a .answer)) in
     let list : b .value ≡ i .list = ap (λ (i : Items A). i .list) (value-of (b .rest)) in
     let end : b .next ≡ e = end-of (b .rest) in
     record {
@@ -181,11 +181,11 @@ items-read {A} p s {i} {e} q =
 
 module _ {A : Type 0} (p : List A → Reader A) (k : ℕ) (s : List ℕ) where
   pub item-of-list : (n at : ℕ) {l : List A} {e : ℕ} → listOf n p s at ≡ got l e → k < length l
-      → (x : Indexed p s at k l) × (itemOf (length l) k p s at ≡ got (x .value) (x .next))
+      → (x : Indexed p s at k l) × (itemByIndex (length l) k p s at ≡ got (x .value) (x .next))
   item-of-list n at {l} q h =
       let c = listed p s n at q .0 in
       let t = item-inside p s n k at q (omega (arith, c)) in
-      (t .0, ap (λ (n : ℕ). itemOf n k p s at) c ∙ t .1)
+      (t .0, ap (λ (n : ℕ). itemByIndex n k p s at) c ∙ t .1)
 
   pub item-at : {i : Items A} {e : ℕ} → items p s 0 ≡ got i e → k < length (i .list)
       → (x : Indexed p s (itemsStart s) k (i .list)) × (itemAt k p s ≡ got (x .value) (x .next))

@@ -20,7 +20,7 @@ use Rattle.messages_inventory_read.specs.Values.{idGiven, payloadGiven, 
 
 module _ (s : List ℕ) where
   id-given : (at : ℕ) {g : Segment} {e : ℕ} → part 32 s at ≡ got g e → idGiven s (idOf g) ≡ g .bytes
-  id-given at {g} {e} q = let p = gives-part 32 .holds g e q in rw (← p .long) (p .placed .bytes)
+  id-given at {g} {e} q = let p = gives-part 32 .holds g e q in rw (← p .size) (p .placed .bytes)
 
   pub ids-given : {i : Items Segment} {e : ℕ} → items (λ before. part 32) s 0 ≡ got i e → idsGiven s (length (i .list)) ≡ map (λ (g : Segment). g .bytes) (i .list)
   unfolding idsGiven idAt

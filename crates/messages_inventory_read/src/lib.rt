@@ -5,11 +5,11 @@ ghost use Prim.Native.Nat.{_+_};
 ghost use lib.Dec.{leb};
 ghost use lib.ListN.{length};
 ghost use Rattle.wire.specs.Reader.{mapAnswer, listOf, part};
-ghost use Rattle.messages.specs.Message.{count, header, payloadAfter, payload};
+ghost use Rattle.messages.specs.Message.{count, inventoryHeader, payloadAfter, payload};
 ghost use Rattle.messages.specs.Message.{total as totalOf};
 ghost use Rattle.messages_inventory_read.specs.Parts.{items, idAt, payloadAt};
 ghost use Rattle.messages_inventory_read.specs.Answers.{inventoryIn, idOf, payloadOf, payloadSum};
-ghost use Rattle.messages_inventory_read.specs.Answers.{inventoryAnswer, headerAnswer, countAnswer, idAnswer, payloadAnswer, sumAnswer, payloadAtAnswer};
+ghost use Rattle.messages_inventory_read.specs.Answers.{inventoryAnswer, headerAnswer, countAnswer, idAnswer, payloadAnswer, sumAnswer, payloadByIndexAnswer};
 use messages::ID_SIZE;
 use messages::MAX_INV_OBJECTS;
 use types::BodyPlace;
@@ -20,7 +20,7 @@ use vlq::VlqRead;
 
 // The ids or payloads of a body: its type byte, how many there are, and the place of the first.
 pub struct Inventory {
-    pub kind: u8,
+    pub modifier_type: u8,
     pub count: usize,
     pub start: BodyPlace,
 }
@@ -51,7 +51,7 @@ pub enum PayloadRead {
 }
 
 // A payload and the place where it ends.
-pub enum PayloadAt {
+pub enum PayloadByIndexRead {
     Value(Payload, BodyPlace),
     Refused(u8),
 }
@@ -150,20 +150,20 @@ pub fn read_payload(body: &[u8], at: BodyPlace, total: usize) -> PayloadRead
 }
 
 // A payload of a ModifierResponse body, by index.
-pub fn payload_by_index(body: &[u8], index: usize) -> PayloadAt
-    ensures { λ r. ⌜ payloadAtAnswer r ≡ mapAnswer payloadOf (payloadAt index (now (body .entry))) ⌝ }
+pub fn payload_by_index(body: &[u8], index: usize) -> PayloadByIndexRead
+    ensures { λ r. ⌜ payloadByIndexAnswer r ≡ mapAnswer payloadOf (payloadAt index (now (body .entry))) ⌝ }
 {
     match parse_modifier_response_body(body) {
         InventoryRead::Value(payloads, end) => {
             if payloads.count <= index {
-                return PayloadAt::Refused(12);
+                return PayloadByIndexRead::Refused(12);
             }
             match skip_payloads(body, payloads.start, index) {
                 SumRead::Value(at, total) => payload_after(body, at, total),
-                SumRead::Refused(m) => PayloadAt::Refused(m),
+                SumRead::Refused(m) => PayloadByIndexRead::Refused(m),
             }
         }
-        InventoryRead::Refused(m) => PayloadAt::Refused(m),
+        InventoryRead::Refused(m) => PayloadByIndexRead::Refused(m),
     }
 }
 
@@ -186,13 +186,13 @@ pub fn read_count(body: &[u8], c: Cursor, cap: usize) -> CountRead
 
 // A type byte and a count.
 fn read_header(body: &[u8]) -> HeaderRead
-    ensures { λ r. ⌜ headerAnswer r ≡ header (now (body .entry)) 0 ⌝ }
+    ensures { λ r. ⌜ headerAnswer r ≡ inventoryHeader (now (body .entry)) 0 ⌝ }
 {
     let c = Cursor { at: 0 };
     match c.read_byte(body) {
         ByteRead::Value(b, d) => match read_count(body, d, MAX_INV_OBJECTS) {
             CountRead::Value(count, e) => HeaderRead::Value(Inventory {
-                kind: b,
+                modifier_type: b,
                 count,
                 start: BodyPlace(e.at),
             }),
@@ -223,12 +223,12 @@ fn skip_payloads(body: &[u8], start: BodyPlace, n: usize) -> SumRead
 }
 
 // The payload at a place, without the lengths so far.
-fn payload_after(body: &[u8], at: BodyPlace, total: usize) -> PayloadAt
-    ensures { λ r. ⌜ payloadAtAnswer r ≡ mapAnswer payloadOf (payloadAfter (length (now (body .entry))) total (now (body .entry)) (at .0)) ⌝ }
+fn payload_after(body: &[u8], at: BodyPlace, total: usize) -> PayloadByIndexRead
+    ensures { λ r. ⌜ payloadByIndexAnswer r ≡ mapAnswer payloadOf (payloadAfter (length (now (body .entry))) total (now (body .entry)) (at .0)) ⌝ }
 {
     match read_payload(body, at, total) {
-        PayloadRead::Value(p, next, sum) => PayloadAt::Value(p, next),
-        PayloadRead::Refused(m) => PayloadAt::Refused(m),
+        PayloadRead::Value(p, next, sum) => PayloadByIndexRead::Value(p, next),
+        PayloadRead::Refused(m) => PayloadByIndexRead::Refused(m),
     }
 }
 

@@ -22,16 +22,16 @@ module _ {out₀ : List ℕ} {at : ℕ} (ids buffer : List ℕ) {out : List ℕ}
   pub id-inside : getD ids i 0 + 32 ≤ length buffer
   id-inside = leb-true (getD ids i 0 + 32) (length buffer) (putting-passed inv more)
 
-  long : length (bytesAt buffer (getD ids i 0) 32) ≡ 32
-  long = length-part 32 buffer (getD ids i 0) id-inside
+  size : length (bytesAt buffer (getD ids i 0) 32) ≡ 32
+  size = length-part 32 buffer (getD ids i 0) id-inside
 
   pub id-room : o + 32 ≤ length out
-  id-room = omega (arith, putting-room inv more, long)
+  id-room = omega (arith, putting-room inv more, size)
 
   -- a turn stores one id
   pub id-stored : {r : Written} {id last : List ℕ} → id ≡ bytesAt buffer (getD ids i 0) 32 → r ≡ written [] [] out o id → last ≡ outputAfter r out o id
       → PuttingIds out₀ at ids buffer last (o + 32) (i + 1)
   id-stored {r} {id} {last} e says after =
       let there : List ℕ = bytesAt buffer (getD ids i 0) 32 in
-      let w : Wrote out o there (o + length there) last = wrote-checked [] [] out o there (rw e at says) (rw e at after) tt tt (omega (arith, id-room, long)) in
-      putting-turn inv more (rw long at w)
+      let w : Wrote out o there (o + length there) last = wrote-checked [] [] out o there (rw e at says) (rw e at after) tt tt (omega (arith, id-room, size)) in
+      putting-turn inv more (rw size at w)

@@ -22,10 +22,10 @@ idsInside ids len = every (λ at. leb (at + 32) len) (idPlaces ids)
 
 -- a type byte, a table of ids and the buffer
 unfoldable pub idsWrittenFor : ℕ → List ℕ → List ℕ → ℕ → ℕ → Written
-idsWrittenFor kind ids buffer len at =
+idsWrittenFor type ids buffer len at =
     writtenFor []
     (ask 12 (idsInside ids (length buffer))
     ∷ ask 10 (leb (length ids) maxInvObjects)
-    ∷ ask 7 (leb (length (idsBytes kind (idsOf ids buffer))) limit)
+    ∷ ask 7 (leb (length (idsBytes type (idsOf ids buffer))) limit)
     ∷ [])
-    len at (frameLength (length (idsBytes kind (idsOf ids buffer))))
+    len at (frameLength (length (idsBytes type (idsOf ids buffer))))

@@ -32,15 +32,15 @@ pub length-ids : (ids buffer : List ℕ) → length (idsOf ids buffer) ≡ lengt
 unfolding idsOf
 length-ids ids buffer = length-map (idPlaces ids) (λ at. bytesAt buffer at 32) ∙ length-rows (λ k. getD ids k 0) 0 (length ids)
 
-pub said-request : (network : Network) (kind : ℕ) (ids buffer out : List ℕ) (at : ℕ)
-    → idsWrittenFor kind ids buffer (length out) at ≡ messageWritten network 0 (writeModifierRequest kind ids buffer) out at
-unfolding idsWrittenFor messageWritten written asked messageWhole messageInside messageAsked valueOf Values.entriesOf payloadsWithin countWithin codeFree entriesAsked every bodyBytes codeOf inside
-said-request network kind ids buffer out at = rw (length-frame network 22 (idsBytes kind (idsOf ids buffer)), length-ids ids buffer)
+pub said-request : (network : Network) (type : ℕ) (ids buffer out : List ℕ) (at : ℕ)
+    → idsWrittenFor type ids buffer (length out) at ≡ messageWritten network 0 (writeModifierRequest type ids buffer) out at
+unfolding idsWrittenFor messageWritten written asked messageWhole messageInside messageAsked valueOf Values.messageEntries payloadsWithin countWithin codeFree entriesAsked every bodyBytes codeOf inside
+said-request network type ids buffer out at = rw (length-frame network 22 (idsBytes type (idsOf ids buffer)), length-ids ids buffer)
 
-pub said-inv : (network : Network) (kind : ℕ) (ids buffer out : List ℕ) (at : ℕ)
-    → idsWrittenFor kind ids buffer (length out) at ≡ messageWritten network 0 (writeInv kind ids buffer) out at
-unfolding idsWrittenFor messageWritten written asked messageWhole messageInside messageAsked valueOf Values.entriesOf payloadsWithin countWithin codeFree entriesAsked every bodyBytes codeOf inside
-said-inv network kind ids buffer out at = rw (length-frame network 55 (idsBytes kind (idsOf ids buffer)), length-ids ids buffer)
+pub said-inv : (network : Network) (type : ℕ) (ids buffer out : List ℕ) (at : ℕ)
+    → idsWrittenFor type ids buffer (length out) at ≡ messageWritten network 0 (writeInv type ids buffer) out at
+unfolding idsWrittenFor messageWritten written asked messageWhole messageInside messageAsked valueOf Values.messageEntries payloadsWithin countWithin codeFree entriesAsked every bodyBytes codeOf inside
+said-inv network type ids buffer out at = rw (length-frame network 55 (idsBytes type (idsOf ids buffer)), length-ids ids buffer)
 
 -- ---- lengths
 
@@ -58,36 +58,36 @@ unfolding idsOf
 length-rows-bytes ids buffer h = ids-long buffer (λ k. getD ids k 0) 0 (length ids) h
 
 -- a type byte, the count and the ids
-pub ids-parts : (kind : ℕ) (ids buffer : List ℕ) → idsBytes kind (idsOf ids buffer) ≡ (kind ∷ []) ++ (vlqBytes (length ids) ++ flatMap (λ id. id) (idsOf ids buffer))
+pub ids-parts : (type : ℕ) (ids buffer : List ℕ) → idsBytes type (idsOf ids buffer) ≡ (type ∷ []) ++ (vlqBytes (length ids) ++ flatMap (λ id. id) (idsOf ids buffer))
 unfolding idsBytes
-ids-parts kind ids buffer = rw (length-ids ids buffer)
+ids-parts type ids buffer = rw (length-ids ids buffer)
 
-pub length-parts : (kind : ℕ) (ids buffer : List ℕ)
-    → length (idsBytes kind (idsOf ids buffer)) ≡ 1 + length (vlqBytes (length ids)) + length (flatMap (λ id. id) (idsOf ids buffer))
-length-parts kind ids buffer =
-    omega (arith, ap length (ids-parts kind ids buffer), length-append (vlqBytes (length ids)) (flatMap (λ id. id) (idsOf ids buffer)))
+pub length-parts : (type : ℕ) (ids buffer : List ℕ)
+    → length (idsBytes type (idsOf ids buffer)) ≡ 1 + length (vlqBytes (length ids)) + length (flatMap (λ id. id) (idsOf ids buffer))
+length-parts type ids buffer =
+    omega (arith, ap length (ids-parts type ids buffer), length-append (vlqBytes (length ids)) (flatMap (λ id. id) (idsOf ids buffer)))
 
-pub length-idsBytes : (kind : ℕ) (ids buffer : List ℕ) → idsInside ids (length buffer) ≡ true
-    → length (idsBytes kind (idsOf ids buffer)) ≡ 1 + length (vlqBytes (length ids)) + 32 * length ids
-length-idsBytes kind ids buffer h = omega (arith, length-parts kind ids buffer, length-rows-bytes ids buffer h)
+pub length-idsBytes : (type : ℕ) (ids buffer : List ℕ) → idsInside ids (length buffer) ≡ true
+    → length (idsBytes type (idsOf ids buffer)) ≡ 1 + length (vlqBytes (length ids)) + 32 * length ids
+length-idsBytes type ids buffer h = omega (arith, length-parts type ids buffer, length-rows-bytes ids buffer h)
 
 -- ---- a writer that accepted
 
-pub asked-ids : (kind : ℕ) (ids buffer : List ℕ) (len at : ℕ) {e : ℕ} {r : Written} → r ≡ idsWrittenFor kind ids buffer len at → r ≡ To e
+pub asked-ids : (type : ℕ) (ids buffer : List ℕ) (len at : ℕ) {e : ℕ} {r : Written} → r ≡ idsWrittenFor type ids buffer len at → r ≡ To e
     → (idsInside ids (length buffer) ≡ true)
-    × ((length (idsBytes kind (idsOf ids buffer)) ≤ limit) × (at + frameLength (length (idsBytes kind (idsOf ids buffer))) ≤ len))
+    × ((length (idsBytes type (idsOf ids buffer)) ≤ limit) × (at + frameLength (length (idsBytes type (idsOf ids buffer))) ≤ len))
 unfolding idsWrittenFor
-asked-ids kind ids buffer len at {e} says p =
-    let n : ℕ = length (idsBytes kind (idsOf ids buffer)) in
+asked-ids type ids buffer len at {e} says p =
+    let n : ℕ = length (idsBytes type (idsOf ids buffer)) in
     let h = asked-to _ (To (at + frameLength n)) e (sym says ∙ p) .0 in
     (h .1 .0, (leb-true n limit (h .1 .1 .1 .0), leb-true (at + frameLength n) len (h .1 .1 .1 .1 .0)))
 
 -- ---- what was stored
 
 -- a type byte, and a count after it
-pub count-stored : (kind n : ℕ) (out : List ℕ) (at : ℕ) {r : Written} {mid : List ℕ} → at + 1 + length (vlqBytes n) ≤ length out
-    → r ≡ written [] [] (set out at kind) (at + 1) (vlqBytes n) → mid ≡ outputAfter r (set out at kind) (at + 1) (vlqBytes n)
-    → Wrote out at ((kind ∷ []) ++ vlqBytes n) (at + 1 + length (vlqBytes n)) mid
-count-stored kind n out at room says left =
-    wrote-then (wrote-byte out at kind)
-    (wrote-checked [] [] (set out at kind) (at + 1) (vlqBytes n) says left tt tt (omega (arith, length-set out at kind)))
+pub count-stored : (type n : ℕ) (out : List ℕ) (at : ℕ) {r : Written} {mid : List ℕ} → at + 1 + length (vlqBytes n) ≤ length out
+    → r ≡ written [] [] (set out at type) (at + 1) (vlqBytes n) → mid ≡ outputAfter r (set out at type) (at + 1) (vlqBytes n)
+    → Wrote out at ((type ∷ []) ++ vlqBytes n) (at + 1 + length (vlqBytes n)) mid
+count-stored type n out at room says left =
+    wrote-then (wrote-byte out at type)
+    (wrote-checked [] [] (set out at type) (at + 1) (vlqBytes n) says left tt tt (omega (arith, length-set out at type)))

@@ -26,14 +26,22 @@ pub fn write_modifier_request(
     out: &mut [u8],
     at: usize,
     network: Network,
-    kind: u8,
+    modifier_type: u8,
     ids: &[u32],
     buffer: &[u8],
 ) -> Written
-    ensures { λ r. ⌜ r ≡ messageWritten network 0 (writeModifierRequest kind (now (ids .entry)) (now (buffer .entry))) (now (out .entry)) at ⌝ }
-    ensures { λ r. ⌜ now (out .exit) ≡ outputAfter r (now (out .entry)) at (messageBytes network (valueOf (writeModifierRequest kind (now (ids .entry)) (now (buffer .entry))))) ⌝ }
+    ensures { λ r. ⌜ r ≡ messageWritten network 0 (writeModifierRequest «modifier_type» (now (ids .entry)) (now (buffer .entry))) (now (out .entry)) at ⌝ }
+    ensures { λ r. ⌜ now (out .exit) ≡ outputAfter r (now (out .entry)) at (messageBytes network (valueOf (writeModifierRequest «modifier_type» (now (ids .entry)) (now (buffer .entry))))) ⌝ }
 {
-    write_ids(out, at, network, MODIFIER_REQUEST, kind, ids, buffer)
+    write_ids(
+        out,
+        at,
+        network,
+        MODIFIER_REQUEST,
+        modifier_type,
+        ids,
+        buffer,
+    )
 }
 
 // Inv: a type byte and the ids whose places in the buffer are given.
@@ -41,14 +49,14 @@ pub fn write_inv(
     out: &mut [u8],
     at: usize,
     network: Network,
-    kind: u8,
+    modifier_type: u8,
     ids: &[u32],
     buffer: &[u8],
 ) -> Written
-    ensures { λ r. ⌜ r ≡ messageWritten network 0 (writeInv kind (now (ids .entry)) (now (buffer .entry))) (now (out .entry)) at ⌝ }
-    ensures { λ r. ⌜ now (out .exit) ≡ outputAfter r (now (out .entry)) at (messageBytes network (valueOf (writeInv kind (now (ids .entry)) (now (buffer .entry))))) ⌝ }
+    ensures { λ r. ⌜ r ≡ messageWritten network 0 (writeInv «modifier_type» (now (ids .entry)) (now (buffer .entry))) (now (out .entry)) at ⌝ }
+    ensures { λ r. ⌜ now (out .exit) ≡ outputAfter r (now (out .entry)) at (messageBytes network (valueOf (writeInv «modifier_type» (now (ids .entry)) (now (buffer .entry))))) ⌝ }
 {
-    write_ids(out, at, network, INV, kind, ids, buffer)
+    write_ids(out, at, network, INV, modifier_type, ids, buffer)
 }
 
 // A message whose body is a type byte, a count and ids.
@@ -57,23 +65,23 @@ fn write_ids(
     at: usize,
     network: Network,
     code: u8,
-    kind: u8,
+    modifier_type: u8,
     ids: &[u32],
     buffer: &[u8],
 ) -> Written
-    ensures { λ r. ⌜ r ≡ idsWrittenFor kind (now (ids .entry)) (now (buffer .entry)) (length (now (out .entry))) at ⌝ }
-    ensures { λ r. ⌜ now (out .exit) ≡ outputAfter r (now (out .entry)) at (frameBytes network code (idsBytes kind (idsOf (now (ids .entry)) (now (buffer .entry))))) ⌝ }
+    ensures { λ r. ⌜ r ≡ idsWrittenFor «modifier_type» (now (ids .entry)) (now (buffer .entry)) (length (now (out .entry))) at ⌝ }
+    ensures { λ r. ⌜ now (out .exit) ≡ outputAfter r (now (out .entry)) at (frameBytes network code (idsBytes «modifier_type» (idsOf (now (ids .entry)) (now (buffer .entry))))) ⌝ }
 {
-    let answer = ask_ids(out.len(), at, kind, ids, buffer);
+    let answer = ask_ids(out.len(), at, modifier_type, ids, buffer);
     if let Written::To(_) = answer {
-        put_ids(out, at, network, code, kind, ids, buffer);
+        put_ids(out, at, network, code, modifier_type, ids, buffer);
     }
     answer
 }
 
 // What write_ids says of an output of len bytes.
-fn ask_ids(len: usize, at: usize, kind: u8, ids: &[u32], buffer: &[u8]) -> Written
-    ensures { λ r. ⌜ r ≡ idsWrittenFor kind (now (ids .entry)) (now (buffer .entry)) len at ⌝ }
+fn ask_ids(len: usize, at: usize, modifier_type: u8, ids: &[u32], buffer: &[u8]) -> Written
+    ensures { λ r. ⌜ r ≡ idsWrittenFor «modifier_type» (now (ids .entry)) (now (buffer .entry)) len at ⌝ }
 {
     if len < at {
         return Written::Refused(12);
@@ -115,27 +123,27 @@ fn put_ids(
     at: usize,
     network: Network,
     code: u8,
-    kind: u8,
+    modifier_type: u8,
     ids: &[u32],
     buffer: &[u8],
 )
     requires { ⌜ idsInside (now ids) (length (now buffer)) ≡ true ⌝ }
-    requires { ⌜ length (idsBytes kind (idsOf (now ids) (now buffer))) ≤ limit ⌝ }
-    requires { ⌜ at + frameLength (length (idsBytes kind (idsOf (now ids) (now buffer)))) ≤ length (now out) ⌝ }
-    ensures { λ r. ⌜ now (out .exit) ≡ put (now (out .entry)) at (frameBytes network code (idsBytes kind (idsOf (now (ids .entry)) (now (buffer .entry))))) ⌝ }
+    requires { ⌜ length (idsBytes «modifier_type» (idsOf (now ids) (now buffer))) ≤ limit ⌝ }
+    requires { ⌜ at + frameLength (length (idsBytes «modifier_type» (idsOf (now ids) (now buffer)))) ≤ length (now out) ⌝ }
+    ensures { λ r. ⌜ now (out .exit) ≡ put (now (out .entry)) at (frameBytes network code (idsBytes «modifier_type» (idsOf (now (ids .entry)) (now (buffer .entry))))) ⌝ }
 {
     let start = at + HEADER_SIZE;
-    let end = put_body(out, start, kind, ids, buffer);
+    let end = put_body(out, start, modifier_type, ids, buffer);
     frame_write::close_frame(out, at, network, code, end - start);
 }
 
 // Stores the type byte, the count and the ids, and gives the place after them.
-fn put_body(out: &mut [u8], at: usize, kind: u8, ids: &[u32], buffer: &[u8]) -> usize
+fn put_body(out: &mut [u8], at: usize, modifier_type: u8, ids: &[u32], buffer: &[u8]) -> usize
     requires { ⌜ idsInside (now ids) (length (now buffer)) ≡ true ⌝ }
-    requires { ⌜ at + length (idsBytes kind (idsOf (now ids) (now buffer))) ≤ length (now out) ⌝ }
-    ensures { λ r. ⌜ Wrote (now (out .entry)) at (idsBytes kind (idsOf (now (ids .entry)) (now (buffer .entry)))) r (now (out .exit)) ⌝ }
+    requires { ⌜ at + length (idsBytes «modifier_type» (idsOf (now ids) (now buffer))) ≤ length (now out) ⌝ }
+    ensures { λ r. ⌜ Wrote (now (out .entry)) at (idsBytes «modifier_type» (idsOf (now (ids .entry)) (now (buffer .entry)))) r (now (out .exit)) ⌝ }
 {
-    out[at] = kind;
+    out[at] = modifier_type;
     let count = ids.len() as u64;
     vlq_write::write_vlq(out, at + 1, count);
     put_rows(out, at + 1 + vlq_write::vlq_len(count), ids, buffer)

@@ -8,11 +8,11 @@ use lib.ListN.{length}
 use Rattle.wire.specs.declared.Size.{Size}
 use Rattle.wire.specs.declared.Size.the-variants.{Bytes, Refused}
 use Rattle.vlq.specs.Vlq.{vlqBytes}
-use Rattle.handshake.specs.Tables.{Lent, entriesOf}
+use Rattle.handshake.specs.Tables.{Tables, entriesOf}
 use Rattle.messages.specs.Value.{peersValue, bodyBytes}
 
 -- the entries of a table, as a body
-abbrev pub peersBytes : Lent → List ℕ
+abbrev pub peersBytes : Tables → List ℕ
 peersBytes l = bodyBytes (peersValue (entriesOf l))
 
 -- the count is within the cap, and there is room for all that a frame has before its entries

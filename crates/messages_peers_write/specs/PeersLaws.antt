@@ -22,7 +22,7 @@ use Rattle.frame.specs.Frame.{frameBytes}
 use Rattle.frame_write.specs.Asked.{frameLength, frameWrittenFor}
 use Rattle.frame_write.specs.FrameWriteLaws.{length-frame, frameLength-body, closed}
 use Rattle.handshake.specs.Value.{entryBytes, shortStrings, utf8Strings, fewFeatures, lengthsWithin, entriesAsked}
-use Rattle.handshake.specs.Tables.{Lent, entryRow, entryRows, entryOf, entriesOf, tablesWhole, entryInside}
+use Rattle.handshake.specs.Tables.{Tables, entryRow, entryRows, entryFromRow, entriesOf, tablesWhole, entryInside}
 use Rattle.handshake.specs.RowsLaws.{length-rows}
 use Rattle.wire_output.specs.Asked.{outputAsked}
 use Rattle.wire_output.specs.CheckedLaws.{kept-unaccepted}
@@ -35,16 +35,16 @@ use Rattle.messages_peers_write.specs.Asked.{peersBytes, peersRefusal, p
 
 -- ---- lengths
 
-pub length-entries : (l : Lent) → length (entriesOf l) ≡ length (l .entries) / 12
+pub length-entries : (l : Tables) → length (entriesOf l) ≡ length (l .entries) / 12
 unfolding entriesOf
-length-entries l = length-map (entryRows l) (entryOf l) ∙ length-rows (entryRow (l .entries)) 0 (length (l .entries) / 12)
+length-entries l = length-map (entryRows l) (entryFromRow l) ∙ length-rows (entryRow (l .entries)) 0 (length (l .entries) / 12)
 
 -- the count and the entries
-pub peers-parts : (l : Lent) → peersBytes l ≡ vlqBytes (length (l .entries) / 12) ++ flatMap entryBytes (entriesOf l)
+pub peers-parts : (l : Tables) → peersBytes l ≡ vlqBytes (length (l .entries) / 12) ++ flatMap entryBytes (entriesOf l)
 unfolding bodyBytes
 peers-parts l = rw (length-entries l)
 
-pub length-peers : (l : Lent) → length (peersBytes l) ≡ length (vlqBytes (length (l .entries) / 12)) + length (flatMap entryBytes (entriesOf l))
+pub length-peers : (l : Tables) → length (peersBytes l) ≡ length (vlqBytes (length (l .entries) / 12)) + length (flatMap entryBytes (entriesOf l))
 length-peers l = ap length (peers-parts l) ∙ length-append (vlqBytes (length (l .entries) / 12)) (flatMap entryBytes (entriesOf l))
 
 -- ---- where the frame starts
@@ -54,9 +54,9 @@ unfolding peersStart
 start-room cap count len at start = leb-true (at + (13 + length (vlqBytes count))) len (and-true (leb (at + (13 + length (vlqBytes count))) len) (leb count cap) start .0)
 
 -- it does: the writer says what is said of the entries where they stand
-pub rows-peers : (network : Network) (cap : ℕ) (l : Lent) (out : List ℕ) (at : ℕ) → peersStart cap (length (l .entries) / 12) (length out) at ≡ true
+pub rows-peers : (network : Network) (cap : ℕ) (l : Tables) (out : List ℕ) (at : ℕ) → peersStart cap (length (l .entries) / 12) (length out) at ≡ true
     → let v = length (vlqBytes (length (l .entries) / 12)) in rowsWritten l v out (at + 13 + v) ≡ messageWritten network cap (writePeers l) out at
-unfolding peersStart rowsWritten entriesAsked messageWritten written asked messageWhole messageInside messageAsked valueOf Values.entriesOf payloadsWithin countWithin codeFree codeOf
+unfolding peersStart rowsWritten entriesAsked messageWritten written asked messageWhole messageInside messageAsked valueOf Values.messageEntries payloadsWithin countWithin codeFree codeOf
 rows-peers network cap l out at start =
     let count = length (l .entries) / 12 in
     let v = length (vlqBytes count) in
@@ -97,10 +97,10 @@ other-no : (t u : Bool) → t && u ≡ false → u ≡ true → t ≡ false
 other-no true u e h = sym h ∙ e
 other-no false u e h = refl
 
-pub refused-peers : (network : Network) (cap : ℕ) (l : Lent) (out : List ℕ) (at : ℕ) → peersStart cap (length (l .entries) / 12) (length out) at ≡ false
+pub refused-peers : (network : Network) (cap : ℕ) (l : Tables) (out : List ℕ) (at : ℕ) → peersStart cap (length (l .entries) / 12) (length out) at ≡ false
     → let count = length (l .entries) / 12 in
     outputAsked (length out) at (Unsized (peersRefusal (leb count cap) (entriesSize l (length (vlqBytes count))))) ≡ messageWritten network cap (writePeers l) out at
-unfolding peersStart entriesSize entriesAsked messageWritten written asked messageWhole messageInside messageAsked valueOf Values.entriesOf payloadsWithin countWithin codeFree codeOf
+unfolding peersStart entriesSize entriesAsked messageWritten written asked messageWhole messageInside messageAsked valueOf Values.messageEntries payloadsWithin countWithin codeFree codeOf
 refused-peers network cap l out at start =
     let count = length (l .entries) / 12 in
     let v = length (vlqBytes count) in
@@ -114,9 +114,9 @@ refused-peers network cap l out at start =
     ∙ rw (length-frame network 2 (peersBytes l), length-peers l, length-entries l)
 
 -- the writer refuses, and the output is as it was
-pub not-started : (network : Network) (cap : ℕ) (l : Lent) (out : List ℕ) (at : ℕ) (bs : List ℕ) (r : Written) → r ≡ messageWritten network cap (writePeers l) out at
+pub not-started : (network : Network) (cap : ℕ) (l : Tables) (out : List ℕ) (at : ℕ) (bs : List ℕ) (r : Written) → r ≡ messageWritten network cap (writePeers l) out at
     → peersStart cap (length (l .entries) / 12) (length out) at ≡ false → out ≡ outputAfter r out at bs
-unfolding peersStart messageWritten messageWhole messageInside messageAsked valueOf codeOf Values.entriesOf entriesAsked countWithin
+unfolding peersStart messageWritten messageWhole messageInside messageAsked valueOf codeOf Values.messageEntries entriesAsked countWithin
 not-started network cap l out at bs r says start =
     kept-unaccepted r out at bs (λ (e : ℕ) (p : r ≡ To e).
     let count = length (l .entries) / 12 in
@@ -124,15 +124,15 @@ not-started network cap l out at bs r says start =
     let n = length (flatMap entryBytes (entriesOf l)) in
     let h = written-accepted _ _ out at _ e (sym says ∙ p) in
     let within : leb count cap ≡ true = rw (length-entries l) at (h .rest .1 .1 .1 .1 .1 .1 .0) in
-    let long = frameLength-body (v + n) (omega (arith, vlq-pos count)) in
-    let room : at + (13 + v) ≤ length out = omega (arith, h .room, length-frame network 2 (peersBytes l), ap frameLength (length-peers l), long) in
+    let size = frameLength-body (v + n) (omega (arith, vlq-pos count)) in
+    let room : at + (13 + v) ≤ length out = omega (arith, h .room, length-frame network 2 (peersBytes l), ap frameLength (length-peers l), size) in
     let z : true ≡ false = rw (le-leb (at + (13 + v)) (length out) room, within) at start in
     true≢false z)
 
 -- ---- what was stored
 
 -- the entries were stored where they stand in the frame
-module _ (network : Network) (l : Lent) (out : List ℕ) (at : ℕ) {r : Written} {e : ℕ} {one : List ℕ}
+module _ (network : Network) (l : Tables) (out : List ℕ) (at : ℕ) {r : Written} {e : ℕ} {one : List ℕ}
     (says : r ≡ rowsWritten l (length (vlqBytes (length (l .entries) / 12))) out (at + 13 + length (vlqBytes (length (l .entries) / 12))))
     (left : one ≡ outputAfter r out (at + 13 + length (vlqBytes (length (l .entries) / 12))) (flatMap entryBytes (entriesOf l))) (p : r ≡ To e)
   where
@@ -162,7 +162,7 @@ module _ (network : Network) (l : Lent) (out : List ℕ) (at : ℕ) {r : Written
       unfolding outputAfter
       body-stored =
           let q : one ≡ put out (at + 13 + length count) rows = rw p at left in
-          let long : length one ≡ length out = ap length q ∙ length-put out (at + 13 + length count) rows in
+          let size : length one ≡ length out = ap length q ∙ length-put out (at + 13 + length count) rows in
           let w = wrote-checked [] [] one (at + 13) count says2 left2 tt tt (omega (arith, yes .room)) in
           record {
             end = refl;

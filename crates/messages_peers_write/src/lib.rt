@@ -9,7 +9,7 @@ ghost use Rattle.wire.specs.Bytes.{every};
 ghost use Rattle.wire.specs.Output.{outputAfter};
 ghost use Rattle.vlq.specs.Vlq.{vlqBytes};
 ghost use Rattle.frame.specs.Frame.{frameBytes};
-ghost use Rattle.handshake.specs.Tables.{lent};
+ghost use Rattle.handshake.specs.Tables.{tables};
 ghost use Rattle.handshake_entry_write.specs.Rows.{rowsWritten};
 ghost use Rattle.messages.specs.Writes.{writePeers, valueOf, messageBytes, messageWritten};
 ghost use Rattle.messages_peers_write.specs.Asked.{peersBytes, peersRefusal, peersStart};
@@ -33,8 +33,8 @@ pub fn write_peers(
     features: &[u32],
     buffer: &[u8],
 ) -> Written
-    ensures { λ r. ⌜ r ≡ messageWritten network cap (writePeers (lent (now (entries .entry)) (now (features .entry)) (now (buffer .entry)))) (now (out .entry)) at ⌝ }
-    ensures { λ r. ⌜ now (out .exit) ≡ outputAfter r (now (out .entry)) at (messageBytes network (valueOf (writePeers (lent (now (entries .entry)) (now (features .entry)) (now (buffer .entry)))))) ⌝ }
+    ensures { λ r. ⌜ r ≡ messageWritten network cap (writePeers (tables (now (entries .entry)) (now (features .entry)) (now (buffer .entry)))) (now (out .entry)) at ⌝ }
+    ensures { λ r. ⌜ now (out .exit) ≡ outputAfter r (now (out .entry)) at (messageBytes network (valueOf (writePeers (tables (now (entries .entry)) (now (features .entry)) (now (buffer .entry)))))) ⌝ }
     ensures { λ _. ⌜ every (λ b. ltb b 256) (now (buffer .entry)) ≡ true ⌝ }
 {
     let count = entries.len() / ENTRY_ROW_SIZE;
@@ -69,8 +69,8 @@ fn write_peers_frame(
     buffer: &[u8],
 ) -> Written
     requires { ⌜ at + (13 + length (vlqBytes (length (now entries) / 12))) ≤ length (now out) ⌝ }
-    ensures { λ r. ⌜ r ≡ rowsWritten (lent (now (entries .entry)) (now (features .entry)) (now (buffer .entry))) (length (vlqBytes (length (now (entries .entry)) / 12))) (now (out .entry)) (at + 13 + length (vlqBytes (length (now (entries .entry)) / 12))) ⌝ }
-    ensures { λ r. ⌜ now (out .exit) ≡ outputAfter r (now (out .entry)) at (frameBytes network 2 (peersBytes (lent (now (entries .entry)) (now (features .entry)) (now (buffer .entry))))) ⌝ }
+    ensures { λ r. ⌜ r ≡ rowsWritten (tables (now (entries .entry)) (now (features .entry)) (now (buffer .entry))) (length (vlqBytes (length (now (entries .entry)) / 12))) (now (out .entry)) (at + 13 + length (vlqBytes (length (now (entries .entry)) / 12))) ⌝ }
+    ensures { λ r. ⌜ now (out .exit) ≡ outputAfter r (now (out .entry)) at (frameBytes network 2 (peersBytes (tables (now (entries .entry)) (now (features .entry)) (now (buffer .entry))))) ⌝ }
 {
     let count = (entries.len() / ENTRY_ROW_SIZE) as u64;
     let before = vlq_len(count);

@@ -17,12 +17,12 @@ use Rattle.messages_read.specs.declared.MessageRead.{MessageRead}
 use Rattle.messages_read.specs.declared.MessageRead.the-variants as MessageReads
 use Rattle.messages_read.specs.declared.PeersRead.{PeersRead}
 use Rattle.messages_read.specs.declared.PeersRead.the-variants as PeersReads
-use Rattle.messages_read.specs.declared.PeerRead.{PeerRead}
-use Rattle.messages_read.specs.declared.PeerRead.the-variants as PeerReads
+use Rattle.messages_read.specs.declared.PeerEntryRead.{PeerEntryRead}
+use Rattle.messages_read.specs.declared.PeerEntryRead.the-variants as PeerEntryReads
 use Rattle.messages_read.specs.declared.BogusRead.{BogusRead}
 use Rattle.messages_read.specs.declared.BogusRead.the-variants as BogusReads
-use Rattle.messages_read.specs.declared.EndRead.{EndRead}
-use Rattle.messages_read.specs.declared.EndRead.the-variants as EndReads
+use Rattle.messages_read.specs.declared.EntriesEndRead.{EntriesEndRead}
+use Rattle.messages_read.specs.declared.EntriesEndRead.the-variants as EntriesEndReads
 
 -- ---- what is given of a reading of the body s
 
@@ -48,20 +48,20 @@ abbrev pub peersAnswer : PeersRead → Answer Message
 peersAnswer (PeersReads.Value p end) = got (Messages.Peers p) (end .0)
 peersAnswer (PeersReads.Refused m) = refused m
 
-abbrev pub peerAnswer : PeerRead → Answer PeerSpec
-peerAnswer (PeerReads.Value p end) = got p (end .0)
-peerAnswer (PeerReads.Refused m) = refused m
+abbrev pub peerEntryAnswer : PeerEntryRead → Answer PeerSpec
+peerEntryAnswer (PeerEntryReads.Value p end) = got p (end .0)
+peerEntryAnswer (PeerEntryReads.Refused m) = refused m
 
 -- ---- Only for laws, proofs and private functions: no public contract and no theorem cites what follows.
 
 -- of entries, nothing but where they end
-abbrev pub ended : List Entry → Unit {0}
-ended l = tt
+abbrev pub entriesEnded : List Entry → Unit {0}
+entriesEnded l = tt
 
 abbrev pub bogusAnswer : BogusRead → Answer ℕ
 bogusAnswer (BogusReads.Value n c) = got n (c .at)
 bogusAnswer (BogusReads.Refused m) = refused m
 
-abbrev pub endAnswer : EndRead → Answer (Unit {0})
-endAnswer (EndReads.Value c) = got tt (c .at)
-endAnswer (EndReads.Refused m) = refused m
+abbrev pub entriesEndAnswer : EntriesEndRead → Answer (Unit {0})
+entriesEndAnswer (EntriesEndReads.Value c) = got tt (c .at)
+entriesEndAnswer (EntriesEndReads.Refused m) = refused m

@@ -9,11 +9,11 @@ use Rattle.vlq.specs.ShortString.{string, shortString}
 use Rattle.types.specs.declared.Address.the-variants.{None}
 use Rattle.handshake.specs.Entry.{Entry, version, addressIf, entry}
 use Rattle.messages.specs.Message.{count}
-use Rattle.messages_inventory_read.specs.Parts.{itemOf}
+use Rattle.messages_inventory_read.specs.Parts.{itemByIndex}
 use Rattle.messages_read.specs.Parts.{entries, entriesStart, entryAt}
 use Rattle.handshake_read.specs.declared.PeerSpec.{PeerSpec}
-use Rattle.messages_read.specs.Answers.{peerAnswer}
-use Rattle.messages_read.specs.declared.PeerRead.the-variants as PeerReads
+use Rattle.messages_read.specs.Answers.{peerEntryAnswer}
+use Rattle.messages_read.specs.declared.PeerEntryRead.the-variants as PeerEntryReads
 
 -- under the cap 64
 pub record Case : Type 0 where
@@ -54,9 +54,9 @@ cases =
     ∷ []
 
 pub all-cases : map (λ (c : Case). entryAt 64 (c .index) (c .body)) cases ≡ map (λ (c : Case). c .answer) cases
-unfolding cases entryAt entries entriesStart itemOf count fold listOf groups vlq vlqLength string shortString utf8From utf8 version addressIf entry
+unfolding cases entryAt entries entriesStart itemByIndex count fold listOf groups vlq vlqLength string shortString utf8From utf8 version addressIf entry
 all-cases = refl
 
 -- what the code's answers mean
-pub all-answers : (p : PeerSpec) → (peerAnswer (PeerReads.Value p (record { 0 = 5 })) ≡ got p 5) × (peerAnswer (PeerReads.Refused 3) ≡ refused 3)
+pub all-answers : (p : PeerSpec) → (peerEntryAnswer (PeerEntryReads.Value p (record { 0 = 5 })) ≡ got p 5) × (peerEntryAnswer (PeerEntryReads.Refused 3) ≡ refused 3)
 all-answers p = (refl, refl)

@@ -6,7 +6,7 @@ use Rattle.wire.specs.Reader.{Answer, Reader, bind, andThen, listOf}
 use Rattle.vlq.specs.Vlq.{vlqLength}
 use Rattle.handshake.specs.Entry.{Entry, entry}
 use Rattle.messages.specs.Message.{count}
-use Rattle.messages_inventory_read.specs.Parts.{endOf, itemOf}
+use Rattle.messages_inventory_read.specs.Parts.{endOf, itemByIndex}
 
 -- count, entries
 unfoldable pub entries : ℕ → Reader (List Entry)
@@ -18,10 +18,10 @@ entriesStart s = endOf (vlqLength s 0)
 
 -- an entry by index, once the body has been read without refusal
 unfoldable pub entryAt : ℕ → ℕ → List ℕ → Answer Entry
-entryAt cap index s = bind (entries cap s 0) (λ l next. itemOf (length l) index (λ before. entry) s (entriesStart s))
+entryAt cap index s = bind (entries cap s 0) (λ l next. itemByIndex (length l) index (λ before. entry) s (entriesStart s))
 
 -- ---- Only for laws, proofs and private functions: no public contract and no theorem cites what follows.
 
 -- an entry by index, from the place of the first of n entries on
 unfoldable pub entryAmong : ℕ → ℕ → Reader Entry
-entryAmong n index s at = bind (listOf n (λ before. entry) s at) (λ l next. itemOf n index (λ before. entry) s at)
+entryAmong n index s at = bind (listOf n (λ before. entry) s at) (λ l next. itemByIndex n index (λ before. entry) s at)

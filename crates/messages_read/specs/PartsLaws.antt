@@ -8,7 +8,7 @@ use Rattle.wire.specs.AnswerLaws.{bind-got, bind-step}
 use Rattle.wire.specs.ListOfLaws.{listed, Indexed}
 use Rattle.handshake.specs.Entry.{Entry, entry}
 use Rattle.messages.specs.Message.{peers, count, peersBody}
-use Rattle.messages_inventory_read.specs.Parts.{endOf, itemOf}
+use Rattle.messages_inventory_read.specs.Parts.{endOf, itemByIndex}
 use Rattle.messages_inventory_read.specs.PartsLaws.{count-got, item-of-list}
 use Rattle.messages_read.specs.Parts.{entries, entriesStart, entryAt, entryAmong}
 
@@ -51,6 +51,6 @@ unfolding entryAt entries entryAmong
 entry-among cap k s {n} {at} q = rw q (go (listOf n (λ before. entry) s at) refl)
   where
     go : (r : Answer (List Entry)) → listOf n (λ before. entry) s at ≡ r
-        → bind r (λ l next. itemOf (length l) k (λ before. entry) s (entriesStart s)) ≡ bind r (λ l next. itemOf n k (λ before. entry) s at)
+        → bind r (λ l next. itemByIndex (length l) k (λ before. entry) s (entriesStart s)) ≡ bind r (λ l next. itemByIndex n k (λ before. entry) s at)
     go (got l m) h = rw (listed (λ before. entry) s n at h .0, entries-start cap s q)
     go (refused m) h = refl

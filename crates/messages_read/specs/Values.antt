@@ -27,9 +27,9 @@ peersGiven cap body n = byIndex (peerGiven body) (λ k. mapAnswer peerSpecOf (en
 unfoldable pub messageGiven : ℕ → ℕ → List ℕ → Message → MessageValue
 messageGiven cap code body Messages.GetPeers = getPeersValue
 messageGiven cap code body (Messages.Peers p) = peersValue (peersGiven cap body (p .count))
-messageGiven cap code body (Messages.ModifierRequest i) = modifierRequestValue (i .kind) (idsGiven body (i .count))
-messageGiven cap code body (Messages.ModifierResponse i) = modifierResponseValue (i .kind) (payloadsGiven body (i .count))
-messageGiven cap code body (Messages.Inv i) = invValue (i .kind) (idsGiven body (i .count))
+messageGiven cap code body (Messages.ModifierRequest i) = modifierRequestValue (i .«modifier_type») (idsGiven body (i .count))
+messageGiven cap code body (Messages.ModifierResponse i) = modifierResponseValue (i .«modifier_type») (payloadsGiven body (i .count))
+messageGiven cap code body (Messages.Inv i) = invValue (i .«modifier_type») (idsGiven body (i .count))
 messageGiven cap code body Messages.SyncInfo = syncInfoValue body
 messageGiven cap code body Messages.Unknown = unknownValue code body
 

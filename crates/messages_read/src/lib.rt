@@ -9,8 +9,8 @@ ghost use Rattle.handshake_read.specs.Answers.{peerSpecOf};
 ghost use Rattle.messages.specs.Message.{peersBody, message};
 ghost use Rattle.messages.specs.Bogus.{bogusCount};
 ghost use Rattle.messages_read.specs.Parts.{entryAmong, entryAt};
-ghost use Rattle.messages_read.specs.Answers.{messageOf, ended};
-ghost use Rattle.messages_read.specs.Answers.{messageAnswer, peersAnswer, peerAnswer, endAnswer, bogusAnswer};
+ghost use Rattle.messages_read.specs.Answers.{messageOf, entriesEnded};
+ghost use Rattle.messages_read.specs.Answers.{messageAnswer, peersAnswer, peerEntryAnswer, entriesEndAnswer, bogusAnswer};
 use handshake_read::EntryRead;
 use handshake_read::PeerSpec;
 use messages::GET_PEERS;
@@ -55,7 +55,7 @@ pub enum PeersRead {
     Refused(u8),
 }
 
-pub enum PeerRead {
+pub enum PeerEntryRead {
     Value(PeerSpec, BodyPlace),
     Refused(u8),
 }
@@ -65,7 +65,7 @@ enum BogusRead {
     Refused(u8),
 }
 
-enum EndRead {
+enum EntriesEndRead {
     Value(Cursor),
     Refused(u8),
 }
@@ -127,22 +127,22 @@ pub fn parse_peers_body(body: &[u8], cap: usize, network: Network) -> PeersRead
 }
 
 // The entry at a place of a Peers body.
-pub fn read_entry(body: &[u8], at: BodyPlace) -> PeerRead
-    ensures { λ r. ⌜ peerAnswer r ≡ mapAnswer peerSpecOf (entry (now (body .entry)) (at .0)) ⌝ }
+pub fn read_entry(body: &[u8], at: BodyPlace) -> PeerEntryRead
+    ensures { λ r. ⌜ peerEntryAnswer r ≡ mapAnswer peerSpecOf (entry (now (body .entry)) (at .0)) ⌝ }
 {
     match handshake_read::parse_peer_entry(body, Cursor { at: at.0 }) {
-        EntryRead::Value(peer, c) => PeerRead::Value(peer, BodyPlace(c.at)),
-        EntryRead::Refused(m) => PeerRead::Refused(m),
+        EntryRead::Value(peer, c) => PeerEntryRead::Value(peer, BodyPlace(c.at)),
+        EntryRead::Refused(m) => PeerEntryRead::Refused(m),
     }
 }
 
 // An entry of a Peers body, by index.
-pub fn entry_by_index(body: &[u8], cap: usize, index: usize) -> PeerRead
-    ensures { λ r. ⌜ peerAnswer r ≡ mapAnswer peerSpecOf (entryAt cap index (now (body .entry))) ⌝ }
+pub fn entry_by_index(body: &[u8], cap: usize, index: usize) -> PeerEntryRead
+    ensures { λ r. ⌜ peerEntryAnswer r ≡ mapAnswer peerSpecOf (entryAt cap index (now (body .entry))) ⌝ }
 {
     match messages_inventory_read::read_count(body, Cursor { at: 0 }, cap) {
         CountRead::Value(count, c) => entry_among(body, c, count, index),
-        CountRead::Refused(m) => PeerRead::Refused(m),
+        CountRead::Refused(m) => PeerEntryRead::Refused(m),
     }
 }
 
@@ -179,8 +179,8 @@ fn one_more_if_bogus(n: usize, address: Address, network: Network) -> usize
 }
 
 // n entries: where they end.
-fn skip_entries(body: &[u8], c: Cursor, n: usize) -> EndRead
-    ensures { λ r. ⌜ endAnswer r ≡ mapAnswer ended (listOf n (λ before. entry) (now (body .entry)) (c .at)) ⌝ }
+fn skip_entries(body: &[u8], c: Cursor, n: usize) -> EntriesEndRead
+    ensures { λ r. ⌜ entriesEndAnswer r ≡ mapAnswer entriesEnded (listOf n (λ before. entry) (now (body .entry)) (c .at)) ⌝ }
 {
     let mut d = c;
     let mut i: usize = 0;
@@ -190,26 +190,26 @@ fn skip_entries(body: &[u8], c: Cursor, n: usize) -> EndRead
                 d = e;
                 i += 1;
             }
-            EntryRead::Refused(m) => return EndRead::Refused(m),
+            EntryRead::Refused(m) => return EntriesEndRead::Refused(m),
         }
     }
-    EndRead::Value(d)
+    EntriesEndRead::Value(d)
 }
 
 // Of count entries the one with an index, once all have been read.
-fn entry_among(body: &[u8], c: Cursor, count: usize, index: usize) -> PeerRead
-    ensures { λ r. ⌜ peerAnswer r ≡ mapAnswer peerSpecOf (entryAmong count index (now (body .entry)) (c .at)) ⌝ }
+fn entry_among(body: &[u8], c: Cursor, count: usize, index: usize) -> PeerEntryRead
+    ensures { λ r. ⌜ peerEntryAnswer r ≡ mapAnswer peerSpecOf (entryAmong count index (now (body .entry)) (c .at)) ⌝ }
 {
     match skip_entries(body, c, count) {
-        EndRead::Value(end) => {
+        EntriesEndRead::Value(end) => {
             if count <= index {
-                return PeerRead::Refused(12);
+                return PeerEntryRead::Refused(12);
             }
             match skip_entries(body, c, index) {
-                EndRead::Value(d) => read_entry(body, BodyPlace(d.at)),
-                EndRead::Refused(m) => PeerRead::Refused(m),
+                EntriesEndRead::Value(d) => read_entry(body, BodyPlace(d.at)),
+                EntriesEndRead::Refused(m) => PeerEntryRead::Refused(m),
             }
         }
-        EndRead::Refused(m) => PeerRead::Refused(m),
+        EntriesEndRead::Refused(m) => PeerEntryRead::Refused(m),
     }
 }

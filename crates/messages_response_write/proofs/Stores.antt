@@ -12,13 +12,13 @@ use Rattle.wire.specs.ReaderLaws.{length-part}
 use Rattle.vlq.specs.Vlq.{vlqBytes}
 use Rattle.handshake.specs.Tables.{bytesAt}
 use Rattle.messages.specs.Value.{payloadBytes}
-use Rattle.messages.specs.Writes.{payloadOf, payloadInside}
+use Rattle.messages.specs.Writes.{payloadFromRow, payloadInside}
 use Rattle.messages.specs.declared.PayloadRow.{PayloadRow}
 use Rattle.messages_response_write.specs.ResponseLaws.{rowLength, id-inside, payload-parts, payload-long}
 
 -- the id was stored
 module _ (buffer out : List ℕ) (at : ℕ) (row : PayloadRow) (h : payloadInside buffer row ≡ true)
-    (room : at + length (payloadBytes (payloadOf buffer row)) ≤ length out) {e : ℕ} {mid : List ℕ} (v : Wrote out at (bytesAt buffer (row .id) 32) e mid)
+    (room : at + length (payloadBytes (payloadFromRow buffer row)) ≤ length out) {e : ℕ} {mid : List ℕ} (v : Wrote out at (bytesAt buffer (row .id) 32) e mid)
   where
     pub after-id : e + length (vlqBytes (row .len)) + row .len ≤ length mid
     unfolding rowLength
@@ -30,5 +30,5 @@ module _ (buffer out : List ℕ) (at : ℕ) (row : PayloadRow) (h : payloadInsid
       length-stored = wrote-checked [] [] mid e (vlqBytes (row .len)) says left tt tt (omega (arith, after-id))
 
       pub payload-stored : {k f : ℕ} {last : List ℕ} → k ≡ length (vlqBytes (row .len)) → Wrote next (e + k) (bytesAt buffer (row .at) (row .len)) f last
-          → Wrote out at (payloadBytes (payloadOf buffer row)) f last
+          → Wrote out at (payloadBytes (payloadFromRow buffer row)) f last
       payload-stored z w = rw (payload-parts buffer row h) (wrote-then v (wrote-then length-stored (rw z at w)))

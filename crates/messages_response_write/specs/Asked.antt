@@ -15,12 +15,12 @@ use Rattle.frame_write.specs.Asked.{frameLength}
 use Rattle.handshake.specs.Tables.{wholeRows}
 use Rattle.messages.specs.Message.{maxInvObjects}
 use Rattle.messages.specs.Value.{PayloadValue, modifierResponseValue, bodyBytes}
-use Rattle.messages.specs.Writes.{payloadRowSize, payloadRows, payloadOf, payloadInside}
+use Rattle.messages.specs.Writes.{payloadRowSize, payloadRows, payloadFromRow, payloadInside}
 use Rattle.messages.specs.declared.PayloadRow.{PayloadRow}
 
 -- the payloads of a table
 abbrev pub payloadsOf : List ℕ → List ℕ → List PayloadValue
-payloadsOf payloads buffer = map (payloadOf buffer) (payloadRows payloads)
+payloadsOf payloads buffer = map (payloadFromRow buffer) (payloadRows payloads)
 
 -- a row's length within the limit
 unfoldable pub rowWithin : PayloadRow → Bool
@@ -28,15 +28,15 @@ rowWithin row = leb (row .len) limit
 
 -- a type byte, a table of payloads and the buffer, as a body
 abbrev pub responseBytes : ℕ → List ℕ → List ℕ → List ℕ
-responseBytes kind payloads buffer = bodyBytes (modifierResponseValue kind (payloadsOf payloads buffer))
+responseBytes type payloads buffer = bodyBytes (modifierResponseValue type (payloadsOf payloads buffer))
 
 unfoldable pub responseWrittenFor : ℕ → List ℕ → List ℕ → ℕ → ℕ → Written
-responseWrittenFor kind payloads buffer len at =
+responseWrittenFor type payloads buffer len at =
     writtenFor
     (ask 16 (wholeRows payloadRowSize payloads) ∷ [])
     (ask 12 (every (payloadInside buffer) (payloadRows payloads))
     ∷ ask 3 (every (λ p. leb (length (p .body)) limit) (payloadsOf payloads buffer))
     ∷ ask 10 (leb (length payloads / payloadRowSize) maxInvObjects)
-    ∷ ask 7 (leb (length (responseBytes kind payloads buffer)) limit)
+    ∷ ask 7 (leb (length (responseBytes type payloads buffer)) limit)
     ∷ [])
-    len at (frameLength (length (responseBytes kind payloads buffer)))
+    len at (frameLength (length (responseBytes type payloads buffer)))

@@ -14,7 +14,7 @@ ghost use Rattle.frame_write.specs.Asked.{frameLength};
 ghost use Rattle.handshake.specs.Tables.{bytesAt};
 ghost use Rattle.messages.specs.Message.{maxInvObjects};
 ghost use Rattle.messages.specs.Value.{payloadBytes};
-ghost use Rattle.messages.specs.Writes.{payloadRowSize, payloadRow, payloadRows, payloadOf, payloadInside, writeModifierResponse, valueOf, messageBytes, messageWritten};
+ghost use Rattle.messages.specs.Writes.{payloadRowSize, payloadRow, payloadRows, payloadFromRow, payloadInside, writeModifierResponse, valueOf, messageBytes, messageWritten};
 ghost use Rattle.messages_response_write.specs.Asked.{payloadsOf, rowWithin, responseBytes, responseWrittenFor};
 ghost use Rattle.messages_response_write.specs.ResponseLaws.{rowLength, rowsLength};
 use frame::HEADER_SIZE;
@@ -32,23 +32,29 @@ pub fn write_modifier_response(
     out: &mut [u8],
     at: usize,
     network: Network,
-    kind: u8,
+    modifier_type: u8,
     payloads: &[u32],
     buffer: &[u8],
 ) -> Written
-    ensures { λ r. ⌜ r ≡ messageWritten network 0 (writeModifierResponse kind (now (payloads .entry)) (now (buffer .entry))) (now (out .entry)) at ⌝ }
-    ensures { λ r. ⌜ now (out .exit) ≡ outputAfter r (now (out .entry)) at (messageBytes network (valueOf (writeModifierResponse kind (now (payloads .entry)) (now (buffer .entry))))) ⌝ }
+    ensures { λ r. ⌜ r ≡ messageWritten network 0 (writeModifierResponse «modifier_type» (now (payloads .entry)) (now (buffer .entry))) (now (out .entry)) at ⌝ }
+    ensures { λ r. ⌜ now (out .exit) ≡ outputAfter r (now (out .entry)) at (messageBytes network (valueOf (writeModifierResponse «modifier_type» (now (payloads .entry)) (now (buffer .entry))))) ⌝ }
 {
-    let answer = ask_response(out.len(), at, kind, payloads, buffer);
+    let answer = ask_response(out.len(), at, modifier_type, payloads, buffer);
     if let Written::To(_) = answer {
-        put_response(out, at, network, kind, payloads, buffer);
+        put_response(out, at, network, modifier_type, payloads, buffer);
     }
     answer
 }
 
 // What write_modifier_response says of an output of len bytes.
-fn ask_response(len: usize, at: usize, kind: u8, payloads: &[u32], buffer: &[u8]) -> Written
-    ensures { λ r. ⌜ r ≡ responseWrittenFor kind (now (payloads .entry)) (now (buffer .entry)) len at ⌝ }
+fn ask_response(
+    len: usize,
+    at: usize,
+    modifier_type: u8,
+    payloads: &[u32],
+    buffer: &[u8],
+) -> Written
+    ensures { λ r. ⌜ r ≡ responseWrittenFor «modifier_type» (now (payloads .entry)) (now (buffer .entry)) len at ⌝ }
 {
     if payloads.len() % PAYLOAD_ROW_SIZE != 0 {
         return Written::Refused(16);
@@ -125,13 +131,13 @@ fn rows_len(payloads: &[u32]) -> usize
     ensures { λ r. ⌜ (r ≡ rowsLength (payloadRows (now (payloads .entry)))) × (r ≤ 6555460000) ⌝ }
 {
     let n = payloads.len() / PAYLOAD_ROW_SIZE;
-    let mut long = 0;
+    let mut size = 0;
     let mut k = 0;
     while k < n {
-        long += row_len(payload_at(payloads, k));
+        size += row_len(payload_at(payloads, k));
         k += 1;
     }
-    long
+    size
 }
 
 // How many bytes a payload is: its id, its length and its bytes.
@@ -160,27 +166,27 @@ fn put_response(
     out: &mut [u8],
     at: usize,
     network: Network,
-    kind: u8,
+    modifier_type: u8,
     payloads: &[u32],
     buffer: &[u8],
 )
     requires { ⌜ every (payloadInside (now buffer)) (payloadRows (now payloads)) ≡ true ⌝ }
-    requires { ⌜ length (responseBytes kind (now payloads) (now buffer)) ≤ limit ⌝ }
-    requires { ⌜ at + frameLength (length (responseBytes kind (now payloads) (now buffer))) ≤ length (now out) ⌝ }
-    ensures { λ r. ⌜ now (out .exit) ≡ put (now (out .entry)) at (frameBytes network 33 (responseBytes kind (now (payloads .entry)) (now (buffer .entry)))) ⌝ }
+    requires { ⌜ length (responseBytes «modifier_type» (now payloads) (now buffer)) ≤ limit ⌝ }
+    requires { ⌜ at + frameLength (length (responseBytes «modifier_type» (now payloads) (now buffer))) ≤ length (now out) ⌝ }
+    ensures { λ r. ⌜ now (out .exit) ≡ put (now (out .entry)) at (frameBytes network 33 (responseBytes «modifier_type» (now (payloads .entry)) (now (buffer .entry)))) ⌝ }
 {
     let start = at + HEADER_SIZE;
-    let end = put_body(out, start, kind, payloads, buffer);
+    let end = put_body(out, start, modifier_type, payloads, buffer);
     frame_write::close_frame(out, at, network, MODIFIER_RESPONSE, end - start);
 }
 
 // Stores the type byte, the count and the payloads, and gives the place after them.
-fn put_body(out: &mut [u8], at: usize, kind: u8, payloads: &[u32], buffer: &[u8]) -> usize
+fn put_body(out: &mut [u8], at: usize, modifier_type: u8, payloads: &[u32], buffer: &[u8]) -> usize
     requires { ⌜ every (payloadInside (now buffer)) (payloadRows (now payloads)) ≡ true ⌝ }
-    requires { ⌜ at + length (responseBytes kind (now payloads) (now buffer)) ≤ length (now out) ⌝ }
-    ensures { λ r. ⌜ Wrote (now (out .entry)) at (responseBytes kind (now (payloads .entry)) (now (buffer .entry))) r (now (out .exit)) ⌝ }
+    requires { ⌜ at + length (responseBytes «modifier_type» (now payloads) (now buffer)) ≤ length (now out) ⌝ }
+    ensures { λ r. ⌜ Wrote (now (out .entry)) at (responseBytes «modifier_type» (now (payloads .entry)) (now (buffer .entry))) r (now (out .exit)) ⌝ }
 {
-    out[at] = kind;
+    out[at] = modifier_type;
     let count = (payloads.len() / PAYLOAD_ROW_SIZE) as u64;
     vlq_write::write_vlq(out, at + 1, count);
     put_rows(out, at + 1 + vlq_write::vlq_len(count), payloads, buffer)
@@ -205,8 +211,8 @@ fn put_rows(out: &mut [u8], at: usize, payloads: &[u32], buffer: &[u8]) -> usize
 // Stores a payload's id, length and bytes, and gives the place after them.
 fn put_payload(out: &mut [u8], at: usize, row: PayloadRow, buffer: &[u8]) -> usize
     requires { ⌜ payloadInside (now buffer) row ≡ true ⌝ }
-    requires { ⌜ at + length (payloadBytes (payloadOf (now buffer) row)) ≤ length (now out) ⌝ }
-    ensures { λ r. ⌜ Wrote (now (out .entry)) at (payloadBytes (payloadOf (now (buffer .entry)) row)) r (now (out .exit)) ⌝ }
+    requires { ⌜ at + length (payloadBytes (payloadFromRow (now buffer) row)) ≤ length (now out) ⌝ }
+    ensures { λ r. ⌜ Wrote (now (out .entry)) at (payloadBytes (payloadFromRow (now (buffer .entry)) row)) r (now (out .exit)) ⌝ }
 {
     let end = put_part(out, at, row.id as usize, ID_SIZE, buffer);
     let n = row.len as usize;

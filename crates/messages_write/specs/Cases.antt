@@ -37,13 +37,13 @@ table =
     ∷ record { write = writeModifierResponse 2 (0 ∷ []) []; out = 7 ∷ []; at = 2; says = Refused 16; last = 7 ∷ [] }
     ∷ []
 
-unfoldable pub Each : List Case → Type 0
-Each [] = Unit {0}
-Each (c ∷ cs) =
+unfoldable pub EachAgrees : List Case → Type 0
+EachAgrees [] = Unit {0}
+EachAgrees (c ∷ cs) =
     (messageWritten Mainnet 0 (c .write) (c .out) (c .at) ≡ c .says)
-    × (outputAfter (c .says) (c .out) (c .at) (messageBytes Mainnet (valueOf (c .write))) ≡ c .last) × Each cs
+    × (outputAfter (c .says) (c .out) (c .at) (messageBytes Mainnet (valueOf (c .write))) ≡ c .last) × EachAgrees cs
 
-pub cases : Each table
-unfolding Each table bigEndianBytes every put asked written outputAfter vlqBytes vlqIn checkedBytes frameBytes entriesAsked rows wholeRows inside Values.entriesOf codeOf idsBytes bodyBytes payloadsWithin countWithin unknownCode codeFree messageAsked idsOf valueOf messageWhole messageInside messageWritten flatMap
+pub cases : EachAgrees table
+unfolding EachAgrees table bigEndianBytes every put asked written outputAfter vlqBytes vlqIn checkedBytes frameBytes entriesAsked rows wholeRows inside Values.messageEntries codeOf idsBytes bodyBytes payloadsWithin countWithin unknownCode codeFree messageAsked idsOf valueOf messageWhole messageInside messageWritten flatMap
 cases =
     (refl, refl, (refl, refl, (refl, refl, (refl, refl, (refl, refl, (refl, refl, (refl, refl, (refl, refl, (refl, refl, tt)))))))))

@@ -27,17 +27,17 @@ use Rattle.messages_write.specs.Asked.{unknownWrittenFor}
 -- ---- what is said
 
 pub said-get-peers : (network : Network) (out : List ℕ) (at : ℕ) → frameWrittenFor (length out) at 0 ≡ messageWritten network 0 writeGetPeers out at
-unfolding frameWrittenFor messageWritten written asked messageWhole messageInside messageAsked valueOf Values.entriesOf payloadsWithin countWithin codeFree entriesAsked every bodyBytes codeOf
+unfolding frameWrittenFor messageWritten written asked messageWhole messageInside messageAsked valueOf Values.messageEntries payloadsWithin countWithin codeFree entriesAsked every bodyBytes codeOf
 said-get-peers network out at = rw (length-frame network 1 [])
 
 pub said-sync-info : (network : Network) (body out : List ℕ) (at : ℕ)
     → frameWritten network 65 body out at ≡ messageWritten network 0 (writeSyncInfo body) out at
-unfolding frameWritten messageWritten written asked messageWhole messageInside messageAsked valueOf Values.entriesOf payloadsWithin countWithin codeFree entriesAsked every bodyBytes codeOf
+unfolding frameWritten messageWritten written asked messageWhole messageInside messageAsked valueOf Values.messageEntries payloadsWithin countWithin codeFree entriesAsked every bodyBytes codeOf
 said-sync-info network body out at = refl
 
 pub said-unknown : (network : Network) (code : ℕ) (body out : List ℕ) (at : ℕ)
     → unknownWrittenFor code (length out) at (length body) ≡ messageWritten network 0 (writeUnknown code body) out at
-unfolding unknownWrittenFor messageWritten written asked messageWhole messageInside messageAsked valueOf Values.entriesOf payloadsWithin countWithin codeFree entriesAsked every bodyBytes codeOf
+unfolding unknownWrittenFor messageWritten written asked messageWhole messageInside messageAsked valueOf Values.messageEntries payloadsWithin countWithin codeFree entriesAsked every bodyBytes codeOf
 said-unknown network code body out at = rw (length-frame network code body)
 
 -- ---- a writer that accepted

@@ -82,7 +82,7 @@ module _ (network : Network) (cap : ℕ) (s : List ℕ) where
         let here : take (next .len) buf ≡ line = line-here zeros line buf (next .len) f n (omega arith) in
         let o : OneLine network cap s at line (next .at .0) (next .more) = rw e (one-line network cap s (streamPlace at)) in
         let w : Wrote mid len line (len + length line) _ = wrote-checked [] [] mid len line (rw here at says) (rw here at left) tt tt (omega arith) in
-        (rw n (laying-line (omega (arith, l .writing .long)) (rw m at l) o (omega arith) w), rw m (omega (arith, o .counted)))
+        (rw n (laying-line (omega (arith, l .writing .size)) (rw m at l) o (omega arith) w), rw m (omega (arith, o .counted)))
 
     -- what `put_lines` gives and leaves
     abbrev pub Over : List ℕ → ℕ → ℕ → Bool → Type 0
@@ -98,7 +98,7 @@ module _ (network : Network) (cap : ℕ) (s : List ℕ) where
         let k : len ≡ length (Whole .text) = omega (arith, w .end) in
         let p : at ≡ Whole .at = sym (ap (λ (b : Block). b .at) e) ∙ l .place in
         let m : more ≡ Whole .more = sym (ap (λ (b : Block). b .more) e) ∙ l .last in
-        let r : len ≤ length mid = omega (arith, l .fits, l .writing .long) in
+        let r : len ≤ length mid = omega (arith, l .fits, l .writing .size) in
         (record-of k p m, (w .bytes, (r, sym (length-take-le len mid r))))
       where
         record-of : {len at : ℕ} {more : Bool} → len ≡ length (Whole .text) → at ≡ Whole .at → more ≡ Whole .more
@@ -110,7 +110,7 @@ module _ (network : Network) (cap : ℕ) (s : List ℕ) where
     laying-last m l = laying-over l (rw m)
 
     pub laying-full : {mid : List ℕ} {len at : ℕ} {more : Bool} → more ≡ true → length mid - len < 192 → Laying mid len at more → Over mid len at more
-    laying-full {len = len} {at = at} m g l = laying-over l (rw m (block-full network cap s (length out - len) at (omega (arith, l .writing .long))))
+    laying-full {len = len} {at = at} m g l = laying-over l (rw m (block-full network cap s (length out - len) at (omega (arith, l .writing .size))))
 
   -- ---- `print_report`
 

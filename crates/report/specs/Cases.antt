@@ -5,7 +5,7 @@ use mathlib.Core.Path.{_≡_, refl}
 use lib.ListN.{length, take, replicate}
 use Rattle.wire.specs.Bytes.{bigEndian, bigEndianFrom, sameBytes}
 use Rattle.wire.specs.Reader.{fold, listOf}
-use Rattle.vlq_utf8.specs.Utf8.{rows, leadIn, leadOf, utf8From, utf8}
+use Rattle.vlq_utf8.specs.Utf8.{leadRows, leadIn, leadOf, utf8From, utf8}
 use Rattle.vlq.specs.Vlq.{groups, vlq}
 use Rattle.vlq.specs.ShortString.{string, shortString}
 use Rattle.types.specs.Order.{thenBy, below}
@@ -19,7 +19,7 @@ use Rattle.walk.specs.Walk.{clean, stopped, stepTo, onward, step, walkIn, walk,
 use Rattle.walk.specs.Session.{messageFields, peersVerdict, noVerdict, messageVerdict, handshakeItem, messageItem, frameItem, handshakeAt, messageAt, sessionReading}
 use Rattle.report_input_read.specs.declared.Input.the-variants.{Bytes, Failed}
 use Rattle.wire_text_write.specs.Text.{ascii, decimalIn, decimal}
-use Rattle.report_text.specs.Lines.{field, span, versionText, handshakeLine, messageText, messageLine, peersLine, stopLine, endLine}
+use Rattle.report_text.specs.Lines.{labelledNumber, span, versionText, handshakeLine, messageText, messageLine, peersLine, stopLine, endLine}
 use Rattle.report_lines.specs.StepLines.{stopText}
 use Rattle.report.specs.Report.{contentLine, endingLine, reportText, sessionText, inputText}
 
@@ -35,7 +35,7 @@ pub all-cases : map sessionText (session ∷ take 10 session ∷ take 11 session
     ∷ ascii "handshake 0 11 version 6.0.1 verdict 0\nstop frame 5 11\n"
     ∷ ascii "stop handshake 1 0\n"
     ∷ []
-unfolding sessionText reportText contentLine endingLine stopText decimalIn decimal field span versionText handshakeLine messageText messageLine stopLine endLine flatMap sessionReading reading walk walkIn onward step stepTo handshakeAt messageAt handshakeItem frameItem messageItem messageVerdict validatePeer firstFeature otherMagic below thenBy handshake entry version addressIf shortString string utf8 utf8From leadOf leadIn rows vlq groups listOf fold frame header body bigEndian bigEndianFrom sameBytes message
+unfolding sessionText reportText contentLine endingLine stopText decimalIn decimal labelledNumber span versionText handshakeLine messageText messageLine stopLine endLine flatMap sessionReading reading walk walkIn onward step stepTo handshakeAt messageAt handshakeItem frameItem messageItem messageVerdict validatePeer firstFeature otherMagic below thenBy handshake entry version addressIf shortString string utf8 utf8From leadOf leadIn leadRows vlq groups listOf fold frame header body bigEndian bigEndianFrom sameBytes message
 all-cases = refl
 
 -- Peers adds entries and bogus; a stop has its layer
@@ -49,7 +49,7 @@ pub all-lines : contentLine 11 65 (messageFields 2 24 (peers [])) (peersVerdict 
     ∷ ascii "stop frame 9 11\n"
     ∷ ascii "stop body 11 20\n"
     ∷ []
-unfolding contentLine endingLine stopText decimalIn decimal field span messageText messageLine peersLine stopLine endLine
+unfolding contentLine endingLine stopText decimalIn decimal labelledNumber span messageText messageLine peersLine stopLine endLine
 all-lines = refl
 
 -- 65,536 bytes are reported on, 65,537 are not

@@ -13,7 +13,7 @@ use Rattle.walk.specs.Walk.{Item, Ending, clean, stopped, unended}
 use Rattle.walk.specs.Session.{Fields, handshakeFields, messageFields, Verdict, peerVerdict, peersVerdict, noVerdict, Content, sessionReading}
 use Rattle.walk_read.specs.Steps.{streamPlace}
 use Rattle.wire_text_write.specs.Text.{ascii}
-use Rattle.report_text.specs.Lines.{field, span, handshakeLine, messageText, messageLine, peersLine, stopLine, endLine}
+use Rattle.report_text.specs.Lines.{labelledNumber, span, handshakeLine, messageText, messageLine, peersLine, stopLine, endLine}
 use Rattle.report_lines.specs.StepLines.{stopText}
 use Rattle.report.specs.Report.{contentLine, itemLine, endingLine, reportText, sessionText, lineAt, nextAt, Block, blockAt}
 use Rattle.report.specs.Theorems as Theorems
@@ -71,14 +71,14 @@ abbrev first : List ℕ → ℕ
 first l = getD l 0 0
 
 content-first : (start end : ℕ) (f : Fields) (v : Verdict) (rest : List ℕ) → first (contentLine start end f v ++ rest) ≡ 117 → ⊥
-unfolding contentLine handshakeLine peersLine messageLine messageText span field
+unfolding contentLine handshakeLine peersLine messageLine messageText span labelledNumber
 content-first start end (handshakeFields h) v rest e = absurd (omega arith)
 content-first start end (messageFields code from m) (peersVerdict n b) rest e = absurd (omega arith)
 content-first start end (messageFields code from m) (peerVerdict v) rest e = absurd (omega arith)
 content-first start end (messageFields code from m) noVerdict rest e = absurd (omega arith)
 
 ending-first : (n : ℕ) (e : Ending) → first (endingLine n e) ≡ 117 → ⊥
-unfolding endingLine endLine stopLine stopText span field
+unfolding endingLine endLine stopLine stopText span labelledNumber
 ending-first n clean e = absurd (omega arith)
 ending-first n (stopped Walk.handshake m at) e = absurd (omega arith)
 ending-first n (stopped Walk.frame m at) e = absurd (omega arith)

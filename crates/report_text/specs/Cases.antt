@@ -2,7 +2,7 @@
 use mathlib.Core.List.{[], _∷_}
 use mathlib.Core.Path.{_≡_, refl}
 use Rattle.wire_text_write.specs.Text.{ascii, decimalIn, decimal}
-use Rattle.report_text.specs.Lines.{field, span, versionText, handshakeLine, messageText, messageLine, peersLine, stopHandshake, stopFrame, stopBody, stopLine, endLine}
+use Rattle.report_text.specs.Lines.{labelledNumber, span, versionText, handshakeLine, messageText, messageLine, peersLine, stopHandshake, stopFrame, stopBody, stopLine, endLine}
 
 pub all-lines : handshakeLine 0 11 6 0 1 0
     ∷ handshakeLine 0 65536 255 99 100 2
@@ -22,5 +22,5 @@ pub all-lines : handshakeLine 0 11 6 0 1 0
     ∷ ascii "stop body 10 9999\n"
     ∷ ascii "end 20\n"
     ∷ []
-unfolding decimalIn decimal field span versionText handshakeLine messageText messageLine peersLine stopLine endLine
+unfolding decimalIn decimal labelledNumber span versionText handshakeLine messageText messageLine peersLine stopLine endLine
 all-lines = refl

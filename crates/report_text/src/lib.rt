@@ -4,7 +4,7 @@ ghost use Prim.Native.Nat.{_+_, _≤_};
 ghost use lib.ListN.{length};
 ghost use Rattle.wire.specs.Output.{Wrote};
 ghost use Rattle.report_text.specs.Lines.{lineEnd, versionText, handshakeLine, messageText, messageLine, peersLine, stopHandshake, stopFrame, stopBody, stopLine, endLine};
-ghost use Rattle.report_text.specs.Lines.{field as Lines·field, span as Lines·span};
+ghost use Rattle.report_text.specs.Lines.{labelledNumber as Lines·field, span as Lines·span};
 
 // "handshake START END version MAJOR.MINOR.PATCH verdict VERDICT"
 pub fn put_handshake(

@@ -4,7 +4,7 @@ use Prim.Native.Nat.{ℕ, _-_, _^_}
 use mathlib.Core.List.{List, [], _∷_}
 use mathlib.Core.Path.{_≡_, refl}
 use Rattle.wire.specs.Reader.{Answer, got, refused, Reader, Segment}
-use Rattle.vlq_utf8.specs.Utf8.{rows, leadIn, leadOf, utf8From, utf8}
+use Rattle.vlq_utf8.specs.Utf8.{leadRows, leadIn, leadOf, utf8From, utf8}
 use Rattle.vlq.specs.Vlq.{groups, vlq, vlqLength, vlqIn, vlqBytes}
 use Rattle.vlq.specs.ShortString.{string, shortString}
 
@@ -78,7 +78,7 @@ EachWrite [] = Unit {0}
 EachWrite (c ∷ cs) = (vlqBytes (c .value) ≡ c .bytes) × EachWrite cs
 
 pub cases : EachRead readCases × EachWrite writeCases
-unfolding EachRead EachWrite readCases writeCases groups vlq vlqLength vlqIn vlqBytes string shortString rows leadIn leadOf utf8From utf8
+unfolding EachRead EachWrite readCases writeCases groups vlq vlqLength vlqIn vlqBytes string shortString leadRows leadIn leadOf utf8From utf8
 cases = (
   (refl, (refl, (refl, (refl, (refl, (refl, (refl, (refl, (refl, (refl, (refl, (refl, (refl, (refl, (refl, (refl, (refl, (refl, tt)))))))))))))))))),
   (refl, (refl, (refl, (refl, (refl, (refl, tt)))))),

@@ -9,7 +9,7 @@ use lib.Dec.{T, eqb, eqb→eq}
 use mir.Facts.{and-yes}
 use Rattle.vlq_utf8.specs.declared.Lead.{Lead}
 use Rattle.vlq_utf8.specs.declared.Lead.the-variants.{Followers, Bad}
-use Rattle.vlq_utf8.specs.Utf8.{rows, leadIn, leadOf}
+use Rattle.vlq_utf8.specs.Utf8.{leadRows, leadIn, leadOf}
 
 abbrev pub sameLead : Lead → Lead → Bool
 sameLead (Followers n low high) (Followers n′ low′ high′) = eqb n n′ && (eqb low low′ && eqb high high′)
@@ -44,5 +44,5 @@ pub lead-range : (v : Lead) (a n b : ℕ) → T (every (λ k. sameLead v (leadOf
 lead-range v a n b t l h = same-is v (leadOf b) (at (λ k. sameLead v (leadOf k)) n a b t l h)
 
 pub lead-ascii : (b : ℕ) → b < 0x80 → Followers 0 0x80 0xbf ≡ leadOf b
-unfolding leadOf leadIn rows
+unfolding leadOf leadIn leadRows
 lead-ascii b h = lead-range (Followers 0 0x80 0xbf) 0 0x80 b tt (omega arith) (omega arith)

@@ -10,7 +10,7 @@ use borrow.Author.Tests.{le-leb}
 use Rattle.wire.specs.Numbers.{lt-or-ge}
 use Rattle.wire.specs.UpTo.{UpTo}
 use Rattle.wire.specs.UpToLaws.{upto-next}
-use Rattle.vlq_utf8.specs.Utf8.{rows, leadIn, leadOf, utf8From, utf8}
+use Rattle.vlq_utf8.specs.Utf8.{leadRows, leadIn, leadOf, utf8From, utf8}
 
 -- a byte more: n is 0 only where m was, and the byte is not above 0x7F
 pub high-next : (s : List ℕ) (a k d m n : ℕ) → (m ≡ 0 → UpTo (λ i. getD s i 0 ≤ 0x7f) a k) → (n ≡ 0 → (m ≡ 0) × (getD s k 0 ≤ 0x7f)) → d ≡ k + 1
@@ -27,7 +27,7 @@ ascii-join s a b c d u v h =
     }
 
 ascii-from : (bs : List ℕ) (low high : ℕ) → ((i : ℕ) → i < length bs → getD bs i 0 ≤ 0x7f) → utf8From bs 0 low high ≡ true
-unfolding utf8From leadOf leadIn rows
+unfolding utf8From leadOf leadIn leadRows
 ascii-from [] low high h = refl
 ascii-from (b ∷ bs) low high h =
     let g : b ≤ 0x7f = h 0 (omega arith) in

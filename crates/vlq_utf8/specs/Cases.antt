@@ -4,7 +4,7 @@ use Prim.Native.Nat.{ℕ}
 use mathlib.Core.Bool.{Bool, true, false}
 use mathlib.Core.List.{List, [], _∷_, map}
 use mathlib.Core.Path.{_≡_, refl}
-use Rattle.vlq_utf8.specs.Utf8.{rows, leadIn, leadOf, utf8From, utf8}
+use Rattle.vlq_utf8.specs.Utf8.{leadRows, leadIn, leadOf, utf8From, utf8}
 use Rattle.vlq_utf8.specs.Scalars.{encode, encodeAll}
 
 pub record Case : Type 0 where
@@ -21,7 +21,7 @@ cases =
     ∷ []
 
 pub cases-hold : map (λ (c : Case). utf8 (c .bytes)) cases ≡ map (λ (c : Case). c .answer) cases
-unfolding cases utf8 utf8From leadOf leadIn rows
+unfolding cases utf8 utf8From leadOf leadIn leadRows
 cases-hold = refl
 
 pub record Example : Type 0 where
@@ -42,5 +42,5 @@ unfolding examples encodeAll encode
 examples-hold = refl
 
 pub examples-accepted : map (λ (e : Example). utf8 (e .octets)) examples ≡ map (λ (e : Example). true) examples
-unfolding examples utf8 utf8From leadOf leadIn rows
+unfolding examples utf8 utf8From leadOf leadIn leadRows
 examples-accepted = refl

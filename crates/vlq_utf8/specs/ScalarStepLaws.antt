@@ -13,7 +13,7 @@ use lib.ListN.{drop}
 use Rattle.wire.specs.BytesLaws.{and-true}
 use Rattle.vlq_utf8.specs.declared.Lead.{Lead}
 use Rattle.vlq_utf8.specs.declared.Lead.the-variants.{Followers, Bad}
-use Rattle.vlq_utf8.specs.Utf8.{Row, row, rows, leadIn, leadOf, afterLead, utf8From, utf8}
+use Rattle.vlq_utf8.specs.Utf8.{Row, row, leadRows, leadIn, leadOf, afterLead, utf8From, utf8}
 use Rattle.vlq_utf8.specs.Scalars.{Scalar, Scalars, encode, encodeAll, EncodingOf}
 
 -- ---- a test on a number, taken apart
@@ -70,8 +70,8 @@ module _ (b : ℕ) (P : Lead → Type 0)
     (four : (lo hi : ℕ) → 0xf0 ≤ b → b ≤ 0xf4 → Bounds (First4 b) lo hi → P (Followers 3 lo hi))
     (between : 0x7f < b → b < 0xc2 → P Bad)
     (after : 0xf4 < b → P Bad) where
-  from-c2 : 0xc2 ≤ b → P (leadIn (drop 1 rows) b)
-  unfolding rows
+  from-c2 : 0xc2 ≤ b → P (leadIn (drop 1 leadRows) b)
+  unfolding leadRows
   from-c2 h₁ =
       next-row b _ _ _ _ _ _ P h₁ (two h₁)
       (λ h₂. next-row b _ _ _ _ _ _ P h₂ (λ g. three _ _ (omega arith) (omega arith) (omega arith))
@@ -83,13 +83,13 @@ module _ (b : ℕ) (P : Lead → Type 0)
       (λ h₈. next-row b _ _ _ _ _ _ P h₈ (λ g. four _ _ (omega arith) (omega arith) (omega arith))
       (λ h₉. rw (below-rows [] b tt) (after h₉)))))))))
 
-  from-80 : 0x7f < b → Dec (b < 0xc2) → P (leadIn (drop 1 rows) b)
-  unfolding rows
-  from-80 h (yes g) = rw (below-rows (drop 1 rows) b (omega arith)) (between h g)
+  from-80 : 0x7f < b → Dec (b < 0xc2) → P (leadIn (drop 1 leadRows) b)
+  unfolding leadRows
+  from-80 h (yes g) = rw (below-rows (drop 1 leadRows) b (omega arith)) (between h g)
   from-80 h (no g) = from-c2 (omega arith)
 
   by-lead : P (leadOf b)
-  unfolding leadOf rows
+  unfolding leadOf leadRows
   by-lead = next-row b _ _ _ _ _ _ P (omega arith) one (λ h. from-80 h (decLt b 0xc2))
 
 -- ---- a scalar value's octets are taken, whatever follows them

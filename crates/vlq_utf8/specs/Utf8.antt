@@ -11,8 +11,8 @@ use Rattle.vlq_utf8.specs.declared.Lead.the-variants.{Followers, Bad}
 pub data Row : Type 0 where
   row : ℕ → ℕ → ℕ → ℕ → ℕ → Row
 
-unfoldable pub rows : List Row
-rows =
+unfoldable pub leadRows : List Row
+leadRows =
     row 0x00 0x7f 0 0x80 0xbf  -- UTF8-1 = %x00-7F
     ∷ row 0xc2 0xdf 1 0x80 0xbf  -- UTF8-2 = %xC2-DF UTF8-tail
     ∷ row 0xe0 0xe0 2 0xa0 0xbf  -- UTF8-3 = %xE0 %xA0-BF UTF8-tail
@@ -30,7 +30,7 @@ leadIn [] b = Bad
 leadIn (row first last n low high ∷ rs) b = cond (leb first b && leb b last) (Followers n low high) (leadIn rs b)
 
 unfoldable pub leadOf : ℕ → Lead
-leadOf b = leadIn rows b
+leadOf b = leadIn leadRows b
 
 abbrev pub afterLead : Lead → (ℕ → ℕ → ℕ → Bool) → Bool
 afterLead (Followers n low high) rest = rest n low high

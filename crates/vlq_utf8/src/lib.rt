@@ -32,34 +32,34 @@ pub fn lead_of(b: u8) -> Lead
 pub fn is_utf8(s: &[u8]) -> bool
     ensures { λ r. ⌜ r ≡ utf8 (now (s .entry)) ⌝ }
 {
-    if high_of(s) == 0 {
+    if non_ascii(s) == 0 {
         return true;
     }
     is_sequence(s)
 }
 
 // 0 only where no byte of s is above 0x7F. Counted by eight bytes at a time, the last eight first.
-fn high_of(s: &[u8]) -> u8
+fn non_ascii(s: &[u8]) -> u8
     ensures { λ r. ⌜ (r ≡ 0 → UpTo (λ i. getD (now (s .entry)) i 0 ≤ 0x7f) 0 (length (now (s .entry)))) ⌝ }
 {
     let n = s.len();
     if n < 8 {
-        return high_of_few(s);
+        return non_ascii_few(s);
     }
-    let mut m = high_of_block(s, n - 8, 8);
+    let mut m = non_ascii_block(s, n - 8, 8);
     let mut at = 0;
     while at + 8 < n {
         if 0 < m {
             return m;
         }
-        m = high_of_block(s, at, 8);
+        m = non_ascii_block(s, at, 8);
         at += 8;
     }
     m
 }
 
 // 0 only where none of the n bytes from a place on is above 0x7F: each byte above it adds 1.
-fn high_of_block(s: &[u8], at: usize, n: usize) -> u8
+fn non_ascii_block(s: &[u8], at: usize, n: usize) -> u8
     requires { ⌜ (at + n ≤ length (now s)) × (n ≤ 8) ⌝ }
     ensures { λ r. ⌜ (r ≤ n) × (r ≡ 0 → UpTo (λ i. getD (now (s .entry)) i 0 ≤ 0x7f) at (at + n)) ⌝ }
 {
@@ -71,15 +71,15 @@ fn high_of_block(s: &[u8], at: usize, n: usize) -> u8
 }
 
 // The same of all bytes of s, fewer than eight: by four at a time, if there are as many, the last four over the first.
-fn high_of_few(s: &[u8]) -> u8
+fn non_ascii_few(s: &[u8]) -> u8
     requires { ⌜ length (now s) < 8 ⌝ }
     ensures { λ r. ⌜ (r ≡ 0 → UpTo (λ i. getD (now (s .entry)) i 0 ≤ 0x7f) 0 (length (now (s .entry)))) ⌝ }
 {
     let n = s.len();
     if n < 4 {
-        return high_of_block(s, 0, n);
+        return non_ascii_block(s, 0, n);
     }
-    high_of_block(s, 0, 4) + high_of_block(s, n - 4, 4)
+    non_ascii_block(s, 0, 4) + non_ascii_block(s, n - 4, 4)
 }
 
 // Is s a sequence of lead bytes with their followers?

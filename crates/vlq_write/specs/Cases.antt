@@ -6,7 +6,7 @@ use lib.ListN.{replicate}
 use Rattle.wire.specs.declared.Written.{Written}
 use Rattle.wire.specs.declared.Written.the-variants.{To, Refused}
 use Rattle.wire.specs.Output.{put, asked, written, outputAfter}
-use Rattle.vlq_utf8.specs.Utf8.{rows, leadIn, leadOf, utf8From, utf8}
+use Rattle.vlq_utf8.specs.Utf8.{leadRows, leadIn, leadOf, utf8From, utf8}
 use Rattle.vlq.specs.ShortString.{shortStringBytes}
 use Rattle.vlq_write.specs.Asked.{shortStringAsked}
 
@@ -28,12 +28,12 @@ table =
     ∷ record { string = 0x61 ∷ []; out = 7 ∷ 7 ∷ []; at = 1; says = Refused 14; last = 7 ∷ 7 ∷ [] }
     ∷ []
 
-unfoldable pub Each : List Case → Type 0
-Each [] = Unit {0}
-Each (c ∷ cs) =
+unfoldable pub EachAgrees : List Case → Type 0
+EachAgrees [] = Unit {0}
+EachAgrees (c ∷ cs) =
     (written [] (shortStringAsked (c .string)) (c .out) (c .at) (shortStringBytes (c .string)) ≡ c .says)
-    × (outputAfter (c .says) (c .out) (c .at) (shortStringBytes (c .string)) ≡ c .last) × Each cs
+    × (outputAfter (c .says) (c .out) (c .at) (shortStringBytes (c .string)) ≡ c .last) × EachAgrees cs
 
-pub cases : Each table
-unfolding Each table put asked written outputAfter rows leadIn leadOf utf8From utf8
+pub cases : EachAgrees table
+unfolding EachAgrees table put asked written outputAfter leadRows leadIn leadOf utf8From utf8
 cases = (refl, refl, (refl, refl, (refl, refl, (refl, refl, (refl, refl, (refl, refl, tt))))))

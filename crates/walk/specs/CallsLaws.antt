@@ -15,8 +15,8 @@ use Rattle.wire.specs.declared.Written.{Written}
 use Rattle.wire.specs.declared.Written.the-variants.{To, Refused}
 use Rattle.types.specs.declared.Network.{Network}
 use Rattle.handshake.specs.Value.{AddressTyped, handshakeBytes}
-use Rattle.handshake.specs.Tables.{Lent}
-use Rattle.handshake.specs.Writes.{Config, built, builtWritten, handshakeAt, handshakeWritten}
+use Rattle.handshake.specs.Tables.{Tables}
+use Rattle.handshake.specs.Writes.{Config, built, builtWritten, handshakeAtRow, handshakeWritten}
 use Rattle.messages.specs.Writes.{MessageWrite, writeGetPeers, writePeers, writeModifierRequest, writeModifierResponse, writeInv, writeSyncInfo, writeUnknown, valueOf, messageBytes, messageWritten}
 use Rattle.messages.specs.WritesLaws.{any-cap}
 use Rattle.walk.specs.Walk.{Step, item, stop, Reading, stepTo, onward, walk}
@@ -31,7 +31,7 @@ use Rattle.walk.specs.Calls.{nextPlace, withAccepted, Called, Calls, non
 -- ---- the contracts as calls
 
 -- of a message that is no Peers nothing needs to be said
-message-typed : (w : MessageWrite) → ((l : Lent) → w ≡ writePeers l → ⊥) → MessageTyped w
+message-typed : (w : MessageWrite) → ((l : Tables) → w ≡ writePeers l → ⊥) → MessageTyped w
 unfolding MessageTyped
 message-typed (writePeers l) other = absurd (other l refl)
 message-typed writeGetPeers other = tt
@@ -43,9 +43,9 @@ message-typed (writeUnknown code body) other = tt
 
 module _ (network : Network) (cap : ℕ) {out left : List ℕ} {at : ℕ} {r : Written} where
   pub called-handshake :
-      (timestamp : ℕ) (l : Lent) (k : ℕ)
+      (timestamp : ℕ) (l : Tables) (k : ℕ)
       → r ≡ handshakeWritten timestamp l k out at
-      → left ≡ outputAfter r out at (handshakeBytes (handshakeAt timestamp l k))
+      → left ≡ outputAfter r out at (handshakeBytes (handshakeAtRow timestamp l k))
       → (timestamp < 2 ^ 64) × (every (λ b. ltb b 256) (l .buffer) ≡ true)
       → Called network cap (writeHandshake timestamp l k) out at r left
   unfolding said writeBytes Typed bytesTyped
@@ -61,7 +61,7 @@ module _ (network : Network) (cap : ℕ) {out left : List ℕ} {at : ℕ} {r : W
   called-built c a o t = record { answer = a; output = o; typed = t }
 
   pub called-peers :
-      (l : Lent)
+      (l : Tables)
       → r ≡ messageWritten network cap (writePeers l) out at
       → left ≡ outputAfter r out at (messageBytes network (valueOf (writePeers l)))
       → every (λ b. ltb b 256) (l .buffer) ≡ true
@@ -71,7 +71,7 @@ module _ (network : Network) (cap : ℕ) {out left : List ℕ} {at : ℕ} {r : W
 
   pub called-message :
       (w : MessageWrite)
-      → ((l : Lent) → w ≡ writePeers l → ⊥)
+      → ((l : Tables) → w ≡ writePeers l → ⊥)
       → r ≡ messageWritten network 0 w out at
       → left ≡ outputAfter r out at (messageBytes network (valueOf w))
       → Called network cap (writeMessage w) out at r left

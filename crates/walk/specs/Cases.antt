@@ -9,7 +9,7 @@ use lib.ListN.{take, replicate}
 use Rattle.wire.specs.Bytes.{bigEndian, bigEndianFrom, bigEndianBytes, sameBytes, every}
 use Rattle.wire.specs.Output.{put, asked, written, outputAfter}
 use Rattle.wire.specs.Reader.{got, fold, listOf}
-use Rattle.vlq_utf8.specs.Utf8.{rows, leadIn, leadOf, utf8From, utf8}
+use Rattle.vlq_utf8.specs.Utf8.{leadRows, leadIn, leadOf, utf8From, utf8}
 use Rattle.vlq.specs.Vlq.{groups, vlq, vlqLength, vlqIn, vlqBytes}
 use Rattle.vlq.specs.ShortString.{string, shortString}
 use Rattle.types.specs.Order.{thenBy, below}
@@ -25,8 +25,8 @@ use Rattle.handshake.specs.Value as Values
 use Rattle.handshake.specs.Verdict.{firstFeature, otherMagic, validatePeer}
 use Rattle.frame.specs.Frame.{header, body, frame, checkedBytes, frameBytes}
 use Rattle.messages.specs.Message.{getPeers, count, ids, peersBody, message}
-use Rattle.messages.specs.Message.{header as inventoryHeader}
-use Rattle.messages.specs.Value.{codeOf, bodyBytes, entriesOf, payloadsWithin, countWithin, unknownCode, codeFree, messageAsked}
+use Rattle.messages.specs.Message.{inventoryHeader}
+use Rattle.messages.specs.Value.{codeOf, bodyBytes, messageEntries, payloadsWithin, countWithin, unknownCode, codeFree, messageAsked}
 use Rattle.messages.specs.Writes.{writeGetPeers, writeUnknown, valueOf, messageWhole, messageInside, messageWritten}
 use Rattle.walk.specs.Walk as Walk
 use Rattle.walk.specs.Walk.{Layer, Opened, opened, refusedIn, Item, Step, item, cleanEnd, stop, outside, Ending, clean, stopped, Reading, isCut, stepTo, onward, step, walkIn, walk, reading}
@@ -110,7 +110,7 @@ abbrev caseReading : Case → Reading Content
 caseReading c = record { items = c .items; ending = c .ending }
 
 pub all-cases : map (λ (c : Case). sessionReading (c .network) 64 (c .bytes)) cases ≡ map caseReading cases
-unfolding cases Tables.rows sessionReading reading walk walkIn onward step stepTo handshakeAt messageAt handshakeItem frameItem messageItem messageVerdict validatePeer firstFeature otherMagic below thenBy handshake entry version addressIf shortString string utf8 utf8From leadOf leadIn rows vlq groups listOf fold frame header body bigEndian bigEndianFrom sameBytes message
+unfolding cases Tables.rows sessionReading reading walk walkIn onward step stepTo handshakeAt messageAt handshakeItem frameItem messageItem messageVerdict validatePeer firstFeature otherMagic below thenBy handshake entry version addressIf shortString string utf8 utf8From leadOf leadIn leadRows vlq groups listOf fold frame header body bigEndian bigEndianFrom sameBytes message
 all-cases = refl
 
 -- the items that end by a cut: an item's end is by itself
@@ -140,7 +140,7 @@ steps =
     ∷ []
 
 pub all-steps : map (λ (c : StepCase). sessionStep Mainnet 64 (c .bytes) (c .place)) steps ≡ map (λ (c : StepCase). c .answer) steps
-unfolding steps sessionStep step stepTo handshakeAt messageAt handshakeItem frameItem messageItem messageVerdict validatePeer firstFeature otherMagic below thenBy handshake entry version addressIf shortString string utf8 utf8From leadOf leadIn rows vlq groups listOf fold frame header body bigEndian bigEndianFrom sameBytes message
+unfolding steps sessionStep step stepTo handshakeAt messageAt handshakeItem frameItem messageItem messageVerdict validatePeer firstFeature otherMagic below thenBy handshake entry version addressIf shortString string utf8 utf8From leadOf leadIn leadRows vlq groups listOf fold frame header body bigEndian bigEndianFrom sameBytes message
 all-steps = refl
 
 -- ---- of all the refusal numbers, those that are cuts in each layer
@@ -230,8 +230,8 @@ all-bodies = refl
 -- ---- the session of 20 bytes, written into 23
 
 -- one entry, without features
-abbrev oneEntry : Tables.Lent
-oneEntry = Tables.lent (0 ∷ 2 ∷ 6 ∷ 0 ∷ 1 ∷ 2 ∷ 0 ∷ 0 ∷ 0 ∷ 0 ∷ 0 ∷ 0 ∷ []) [] (0x61 ∷ 0x62 ∷ [])
+abbrev oneEntry : Tables.Tables
+oneEntry = Tables.tables (0 ∷ 2 ∷ 6 ∷ 0 ∷ 1 ∷ 2 ∷ 0 ∷ 0 ∷ 0 ∷ 0 ∷ 0 ∷ 0 ∷ []) [] (0x61 ∷ 0x62 ∷ [])
 
 -- the first, third and fifth are refused: 15, 12 and 14
 abbrev fiveWrites : List Write
@@ -245,7 +245,7 @@ fiveWrites =
 
 pub all-writes : writeAll Mainnet 64 fiveWrites (replicate 23 7) 0
     ≡ record { out = session ++ (7 ∷ 7 ∷ 7 ∷ []); at = 20; accepted = writeHandshake 300 oneEntry 0 ∷ writeMessage writeGetPeers ∷ [] }
-unfolding writeAll said writeBytes after handshakeWritten messageWritten written outputAfter asked put messageWhole messageInside valueOf messageAsked entriesOf payloadsWithin countWithin bodyBytes codeOf codeFree unknownCode frameBytes checkedBytes bigEndianBytes every Values.entriesAsked Values.shortStrings Values.utf8Strings Values.fewFeatures Values.lengthsWithin Values.handshakeBytes Values.entryBytes Values.versionBytes Values.addressBytes Values.featureBytes vlqBytes vlqIn utf8 utf8From leadOf leadIn rows rowInside Tables.tablesWhole Tables.wholeRows Tables.rows Tables.entryNumbers Tables.featureNumbers Tables.entryInside Tables.inside Tables.featureInside Tables.entryOf Tables.featureOf addressOf flatMap
+unfolding writeAll said writeBytes after handshakeWritten messageWritten written outputAfter asked put messageWhole messageInside valueOf messageAsked messageEntries payloadsWithin countWithin bodyBytes codeOf codeFree unknownCode frameBytes checkedBytes bigEndianBytes every Values.entriesAsked Values.shortStrings Values.utf8Strings Values.fewFeatures Values.lengthsWithin Values.handshakeBytes Values.entryBytes Values.versionBytes Values.addressBytes Values.featureBytes vlqBytes vlqIn utf8 utf8From leadOf leadIn leadRows rowInside Tables.tablesWhole Tables.wholeRows Tables.rows Tables.entryNumbers Tables.featureNumbers Tables.entryInside Tables.inside Tables.featureInside Tables.entryFromRow Tables.featureFromRow addressOf flatMap
 all-writes = refl
 
 -- so that the theorem on written sessions speaks of calls of these writes

@@ -16,7 +16,7 @@ use Rattle.messages.specs.Writes.{MessageWrite, valueOf}
 use Rattle.walk.specs.Walk as Walk
 use Rattle.walk.specs.Walk.{Layer, Item, clean, stopped, Reading}
 use Rattle.walk.specs.Session.{Fields, handshakeFields, messageFields, Content, sessionReading}
-use Rattle.walk.specs.WrittenSession.{Write, writeMessage, Value, messageOf, writeValue, fieldsValue, AllTyped, writeBytes, Done, writeAll}
+use Rattle.walk.specs.WrittenSession.{Write, writeMessage, Value, sessionMessage, writeValue, fieldsValue, AllTyped, writeBytes, Done, writeAll}
 use Rattle.walk.specs.Calls.{nextPlace, withAccepted, Called, Calls, StepsFrom}
 
 -- `Exactly P part full`: part is exactly those of full of which P holds, in order
@@ -125,7 +125,7 @@ module _ (network : Network) (cap : ℕ) where
   WritesRead =
       (ws : List Write) (out : List ℕ) (d : Done) → Calls network cap ws out 0 d
       → (h : Write) (ms : List MessageWrite) → OfHandshake h → d .accepted ≡ h ∷ map writeMessage ms
-      → (map (λ i. fieldsValue (i .holds .fields)) (readingOf (take (d .at) (d .out)) .items) ≡ writeValue h ∷ map (λ m. messageOf (valueOf m)) ms)
+      → (map (λ i. fieldsValue (i .holds .fields)) (readingOf (take (d .at) (d .out)) .items) ≡ writeValue h ∷ map (λ m. sessionMessage (valueOf m)) ms)
       × (readingOf (take (d .at) (d .out)) .ending ≡ clean)
 
   -- "Two such lists whose written bytes are equal have equal accepted handshakes and messages."

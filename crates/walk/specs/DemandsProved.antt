@@ -31,7 +31,7 @@ use Rattle.walk.specs.Session.{Fields, handshakeFields, messageFields, C
 use Rattle.walk.specs.Places.{BodyPlaced, FieldsPlaced}
 use Rattle.walk.specs.CutRule.{endBy, lastEnd, EndsAt, here, there}
 use Rattle.walk.specs.WrittenSession as Session
-use Rattle.walk.specs.WrittenSession.{Write, writeHandshake, writeBuilt, writeMessage, Value, handshakeOf, messageOf, writeValue, writeBytes, sessionBytes, isHandshake, OnlyMessages, HandshakeFirst, first, itemValues}
+use Rattle.walk.specs.WrittenSession.{Write, writeHandshake, writeBuilt, writeMessage, Value, sessionHandshake, sessionMessage, writeValue, writeBytes, sessionBytes, isHandshake, OnlyMessages, HandshakeFirst, first, itemValues}
 use Rattle.walk.specs.SessionLaws.{session-writers}
 use Rattle.walk.specs.Demands.{Exactly, none, with, without, AnEnd, IsCut, OfHandshake, Answered, RefusedLeaves, ChangesItsBytes, CutItems, CutCleanly, CutStops, CutOwnStop, EveryList, CallsGoOn, WritesRead, EqualBytes, ReadsOn, GrowsAtCut, GrowsAtEnd, StopStays, entryParts, messageParts, itemParts, PartsStand}
 use Rattle.walk.specs.Calls.{call}
@@ -95,10 +95,10 @@ of-handshake (writeHandshake timestamp l k) h = refl
 of-handshake (writeBuilt c) h = refl
 of-handshake (writeMessage m) h = absurd (h m refl)
 
-pub message-values : (ms : List MessageWrite) → map writeValue (map writeMessage ms) ≡ map (λ m. messageOf (valueOf m)) ms
+pub message-values : (ms : List MessageWrite) → map writeValue (map writeMessage ms) ≡ map (λ m. sessionMessage (valueOf m)) ms
 unfolding writeValue
 message-values [] = refl
-message-values (m ∷ ms) = ap (λ (l : List Value). messageOf (valueOf m) ∷ l) (message-values ms)
+message-values (m ∷ ms) = ap (λ (l : List Value). sessionMessage (valueOf m) ∷ l) (message-values ms)
 
 pub handshake-first : (h : Write) (ms : List MessageWrite) → OfHandshake h → HandshakeFirst (h ∷ map writeMessage ms)
 handshake-first h ms o = first (of-handshake h o) (only-messages ms)
@@ -106,8 +106,8 @@ handshake-first h ms o = first (of-handshake h o) (only-messages ms)
 -- the messages among values
 messagesOf : List Value → List MessageValue
 messagesOf [] = []
-messagesOf (handshakeOf v ∷ vs) = messagesOf vs
-messagesOf (messageOf v ∷ vs) = v ∷ messagesOf vs
+messagesOf (sessionHandshake v ∷ vs) = messagesOf vs
+messagesOf (sessionMessage v ∷ vs) = v ∷ messagesOf vs
 
 messages-of : (ms : List MessageWrite) → messagesOf (map writeValue (map writeMessage ms)) ≡ map valueOf ms
 unfolding messagesOf writeValue
@@ -165,8 +165,8 @@ through-body s start body h g p =
     let e : length (take (g .start) body) ≡ g .start = length-take-le (g .start) body (omega arith) in
     let whole : StandsAt s start (take (g .start) body ++ drop (g .start) body) = rw (take-append-drop (g .start) body) h in
     let r : StandsAt s (start + g .start) (drop (g .start) body) = rw e at (stands-right (take (g .start) body) (drop (g .start) body) whole) in
-    let long : length (g .bytes) ≤ length (drop (g .start) body) = omega (arith, length-drop (g .start) body) in
-    sym (take-take (length (g .bytes)) (length (drop (g .start) body)) (drop (start + g .start) s) long)
+    let size : length (g .bytes) ≤ length (drop (g .start) body) = omega (arith, length-drop (g .start) body) in
+    sym (take-take (length (g .bytes)) (length (drop (g .start) body)) (drop (start + g .start) s) size)
     ∙ ap (take (length (g .bytes))) (r .bytes) ∙ p .bytes
 
 item-parts : (s : List ℕ) (end : ℕ) (f : Fields) → FieldsPlaced s end f

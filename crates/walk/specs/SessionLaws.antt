@@ -32,7 +32,7 @@ use Rattle.walk.specs.Walk.{Opened, opened, isCut}
 use Rattle.walk.specs.WalkLaws as Laws
 use Rattle.walk.specs.WalkLaws.{Past, OpenedCut, openAt, ReaderLaws}
 use Rattle.walk.specs.Session.{Content, handshakeItem, messageItem, frameItem, handshakeAt, messageAt}
-use Rattle.walk.specs.WrittenSession.{Write, writeHandshake, writeBuilt, writeMessage, handshakeOf, messageOf, writeValue, fieldsValue, bytesTyped, MessageTyped, Typed, said, writeBytes, isHandshake}
+use Rattle.walk.specs.WrittenSession.{Write, writeHandshake, writeBuilt, writeMessage, sessionHandshake, sessionMessage, writeValue, fieldsValue, bytesTyped, MessageTyped, Typed, said, writeBytes, isHandshake}
 use Rattle.walk.specs.WrittenLaws.{Opens, WriterLaws}
 
 -- ---- the readers
@@ -132,11 +132,11 @@ peers-typed w h l e = rw e at h
 module _ (network : Network) (cap : ℕ) where
   -- a handshake's bytes at place 0
   handshake-opens : (v : HandshakeValue) → ReadsBack handshake handshakeValue (handshakeBytes v) v → (s : List ℕ) (p : ℕ) → true ≡ eqb p 0
-      → StandsAt s p (handshakeBytes v) → Opens network cap (handshakeBytes v) (handshakeOf v) s p
+      → StandsAt s p (handshakeBytes v) → Opens network cap (handshakeBytes v) (sessionHandshake v) s p
   unfolding openAt handshakeAt handshakeItem fieldsValue
   handshake-opens v h s zero e g =
       let r = h .reads s 0 g in
-      (_, ap (handshakeItem network) (r .1), ap handshakeOf (r .2))
+      (_, ap (handshakeItem network) (r .1), ap sessionHandshake (r .2))
   handshake-opens v h s (suc p) e g = absurd (omega (arith, eqb-true (suc p) 0 (sym e)))
 
   -- the body of a frame
@@ -146,7 +146,7 @@ module _ (network : Network) (cap : ℕ) where
 
   -- a message's frame at any other place
   message-opens : (v : MessageValue) → length (bodyBytes v) ≤ limit → ReadAs cap v → (s : List ℕ) (p : ℕ) → false ≡ eqb p 0
-      → StandsAt s p (messageBytes network v) → Opens network cap (messageBytes network v) (messageOf v) s p
+      → StandsAt s p (messageBytes network v) → Opens network cap (messageBytes network v) (sessionMessage v) s p
   unfolding openAt messageAt frameItem messageItem fieldsValue
   message-opens v small r s zero e g = let z : _≡_ {A = ℕ} 0 1 = cc in absurd (omega arith)
   message-opens v small r s (suc p) e g =
@@ -156,7 +156,7 @@ module _ (network : Network) (cap : ℕ) where
         _,
         ap (frameItem network cap) (f .1)
             ∙ ap (messageItem network (f .0) (suc p + length (messageBytes network v))) (body-reads v (f .0 .code) (f .0 .body .bytes) code body r),
-        rw code (ap messageOf (r .value)),
+        rw code (ap sessionMessage (r .value)),
       )
 
   write-ends : (w : Write) (out : List ℕ) (at end : ℕ) → said network cap w out at ≡ To end

@@ -8,7 +8,7 @@ use lib.IntN.{negsuc}
 use lib.ListN.{replicate}
 use Rattle.wire.specs.Bytes.{bigEndian, bigEndianFrom}
 use Rattle.wire.specs.Reader.{got, fold, listOf}
-use Rattle.vlq_utf8.specs.Utf8.{rows, leadIn, leadOf, utf8From, utf8}
+use Rattle.vlq_utf8.specs.Utf8.{leadRows, leadIn, leadOf, utf8From, utf8}
 use Rattle.vlq.specs.Vlq.{groups, vlq, vlqLength, vlqIn, vlqBytes}
 use Rattle.vlq.specs.ShortString.{string, shortString}
 use Rattle.vlq_zigzag.specs.Zigzag.{zigzagEncode}
@@ -19,15 +19,15 @@ use Rattle.types.specs.declared.ProxyMode.the-variants.{Light}
 use Rattle.types.specs.declared.Version.{Version}
 use Rattle.handshake.specs.Entry.{version, addressOf, address, addressIf, feature, entry, handshake}
 use Rattle.handshake.specs.Tables as Tables
-use Rattle.handshake.specs.Tables.{Lent, lent}
+use Rattle.handshake.specs.Tables.{Tables, tables}
 use Rattle.handshake.specs.Value.{FeatureValue, EntryValue, featureValue, entryValue, handshakeValue}
 use Rattle.handshake.specs.Writes.{Config, nipopow, modeFeature, sessionFeature, built}
-use Rattle.messages.specs.Message.{count, header, ids, total, payloadAfter, payload, payloads, peersBody, whole, message}
+use Rattle.messages.specs.Message.{count, inventoryHeader, ids, total, payloadAfter, payload, payloads, peersBody, wholeBody, message}
 use Rattle.messages.specs.Value.{getPeersValue, peersValue, modifierRequestValue, modifierResponseValue, invValue, syncInfoValue, unknownValue, payloadValue, messageValue}
-use Rattle.messages.specs.Writes.{idsOf, payloadOf, writeGetPeers, writePeers, writeModifierRequest, writeModifierResponse, writeInv, writeSyncInfo, writeUnknown, valueOf}
+use Rattle.messages.specs.Writes.{idsOf, payloadFromRow, writeGetPeers, writePeers, writeModifierRequest, writeModifierResponse, writeInv, writeSyncInfo, writeUnknown, valueOf}
 use Rattle.walk.specs.Walk.{Opened, opened, refusedIn}
 use Rattle.walk.specs.Session.{Content, handshakeItem, messageItem, frameItem, handshakeAt}
-use Rattle.walk.specs.WrittenSession.{Write, writeHandshake, writeBuilt, writeMessage, Value, handshakeOf, messageOf, writeValue, fieldsValue}
+use Rattle.walk.specs.WrittenSession.{Write, writeHandshake, writeBuilt, writeMessage, Value, sessionHandshake, sessionMessage, writeValue, fieldsValue}
 
 -- ---- numbers and bytes at the end of their ranges
 
@@ -76,9 +76,9 @@ row0 = 3 ∷ 4 ∷ 253 ∷ 254 ∷ 255 ∷ 7 ∷ 2 ∷ 20 ∷ 9 ∷ maxU16 ∷ 0
 abbrev row1 : List ℕ
 row1 = 45 ∷ 3 ∷ 4 ∷ 5 ∷ 6 ∷ 48 ∷ 7 ∷ 8 ∷ 41 ∷ 513 ∷ 1 ∷ 2 ∷ []
 
-abbrev tables : Lent
-tables =
-    lent (row0 ++ row1)
+abbrev bothEntries : Tables
+bothEntries =
+    tables (row0 ++ row1)
     (255 ∷ 9 ∷ 2 ∷ 17 ∷ 41 ∷ 3 ∷ 0 ∷ 45 ∷ 4 ∷ [])
     (ones 3 ++ (lastChar ++ (ab ++ (ones 32 ++ (1 ∷ 2 ∷ 3 ∷ 4 ∷ (cde ++ (fghijkl ++ (255 ∷ []))))))))
 
@@ -163,7 +163,7 @@ pub record Case : Type 0 where
 
 abbrev ofHandshake : Write → EntryValue → List ℕ → Case
 ofHandshake write entry bytes =
-    record { write = write; value = handshakeOf (record { timestamp = maxU64; entry = entry }); item = handshakeAt Mainnet (vlqU64 ++ bytes) }
+    record { write = write; value = sessionHandshake (record { timestamp = maxU64; entry = entry }); item = handshakeAt Mainnet (vlqU64 ++ bytes) }
 
 -- a frame of a code with a body
 abbrev ofMessage : Write → Value → ℕ → List ℕ → Case
@@ -172,23 +172,23 @@ ofMessage write value code body =
 
 unfoldable pub cases : List Case
 cases =
-    ofHandshake (writeHandshake maxU64 tables 1) entry1 bytes1
+    ofHandshake (writeHandshake maxU64 bothEntries 1) entry1 bytes1
     ∷ ofHandshake (writeBuilt config) builtEntry builtBytes
-    ∷ ofMessage (writeMessage writeGetPeers) (messageOf getPeersValue) 1 []
-    ∷ ofMessage (writeMessage (writePeers tables)) (messageOf (peersValue (entry0 ∷ entry1 ∷ []))) 2 (2 ∷ (bytes0 ++ bytes1))
-    ∷ ofMessage (writeMessage (writeModifierRequest 255 (9 ∷ 23 ∷ []) (tables .buffer))) (messageOf (modifierRequestValue 255 (ones 32 ∷ lastId ∷ []))) 22
+    ∷ ofMessage (writeMessage writeGetPeers) (sessionMessage getPeersValue) 1 []
+    ∷ ofMessage (writeMessage (writePeers bothEntries)) (sessionMessage (peersValue (entry0 ∷ entry1 ∷ []))) 2 (2 ∷ (bytes0 ++ bytes1))
+    ∷ ofMessage (writeMessage (writeModifierRequest 255 (9 ∷ 23 ∷ []) (bothEntries .buffer))) (sessionMessage (modifierRequestValue 255 (ones 32 ∷ lastId ∷ []))) 22
     (255 ∷ 2 ∷ (ones 32 ++ lastId))
-    ∷ ofMessage (writeMessage (writeModifierResponse 255 (9 ∷ 3 ∷ 6 ∷ 23 ∷ 45 ∷ 2 ∷ []) (tables .buffer)))
-    (messageOf (modifierResponseValue 255 (record { id = ones 32; body = lastChar ++ ab } ∷ record { id = lastId; body = 0x63 ∷ 0x64 ∷ [] } ∷ []))) 33
+    ∷ ofMessage (writeMessage (writeModifierResponse 255 (9 ∷ 3 ∷ 6 ∷ 23 ∷ 45 ∷ 2 ∷ []) (bothEntries .buffer)))
+    (sessionMessage (modifierResponseValue 255 (record { id = ones 32; body = lastChar ++ ab } ∷ record { id = lastId; body = 0x63 ∷ 0x64 ∷ [] } ∷ []))) 33
     (255 ∷ 2 ∷ (ones 32 ++ (6 ∷ (lastChar ++ (ab ++ (lastId ++ (2 ∷ 0x63 ∷ 0x64 ∷ [])))))))
-    ∷ ofMessage (writeMessage (writeInv 255 (23 ∷ 9 ∷ []) (tables .buffer))) (messageOf (invValue 255 (lastId ∷ ones 32 ∷ []))) 55
+    ∷ ofMessage (writeMessage (writeInv 255 (23 ∷ 9 ∷ []) (bothEntries .buffer))) (sessionMessage (invValue 255 (lastId ∷ ones 32 ∷ []))) 55
     (255 ∷ 2 ∷ (lastId ++ ones 32))
-    ∷ ofMessage (writeMessage (writeSyncInfo (ones 3))) (messageOf (syncInfoValue (ones 3))) 65 (ones 3)
-    ∷ ofMessage (writeMessage (writeUnknown 255 (ones 3))) (messageOf (unknownValue 255 (ones 3))) 255 (ones 3)
+    ∷ ofMessage (writeMessage (writeSyncInfo (ones 3))) (sessionMessage (syncInfoValue (ones 3))) 65 (ones 3)
+    ∷ ofMessage (writeMessage (writeUnknown 255 (ones 3))) (sessionMessage (unknownValue 255 (ones 3))) 255 (ones 3)
     ∷ []
 
 pub all-written : map (λ (c : Case). writeValue (c .write)) cases ≡ map (λ (c : Case). c .value) cases
-unfolding cases writeValue built modeFeature sessionFeature nipopow zigzagEncode vlqBytes vlqIn valueOf idsOf payloadOf Tables.rows Tables.entriesOf Tables.entryOf Tables.featureOf addressOf bigEndian bigEndianFrom
+unfolding cases writeValue built modeFeature sessionFeature nipopow zigzagEncode vlqBytes vlqIn valueOf idsOf payloadFromRow Tables.rows Tables.entriesOf Tables.entryFromRow Tables.featureFromRow addressOf bigEndian bigEndianFrom
 all-written = refl
 
 -- the value of an item, if it is one
@@ -197,5 +197,5 @@ itemValue (opened c end) = fieldsValue (c .fields) ∷ []
 itemValue (refusedIn layer n) = []
 
 pub all-read : flatMap (λ (c : Case). itemValue (c .item)) cases ≡ map (λ (c : Case). c .value) cases
-unfolding cases fieldsValue flatMap handshakeAt handshakeItem frameItem messageItem handshake entry version addressIf address addressOf feature shortString string utf8 utf8From leadOf leadIn rows vlq vlqLength groups listOf fold bigEndian bigEndianFrom message count header ids total payloadAfter payload payloads peersBody whole featureValue entryValue handshakeValue payloadValue messageValue
+unfolding cases fieldsValue flatMap handshakeAt handshakeItem frameItem messageItem handshake entry version addressIf address addressOf feature shortString string utf8 utf8From leadOf leadIn leadRows vlq vlqLength groups listOf fold bigEndian bigEndianFrom message count inventoryHeader ids total payloadAfter payload payloads peersBody wholeBody featureValue entryValue handshakeValue payloadValue messageValue
 all-read = refl

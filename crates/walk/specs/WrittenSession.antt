@@ -11,8 +11,8 @@ use Rattle.wire.specs.declared.Written.{Written}
 use Rattle.wire.specs.declared.Written.the-variants.{To, Refused}
 use Rattle.types.specs.declared.Network.{Network}
 use Rattle.handshake.specs.Value.{AddressTyped, HandshakeValue, handshakeValue, handshakeBytes}
-use Rattle.handshake.specs.Tables.{Lent}
-use Rattle.handshake.specs.Writes.{Config, built, builtWritten, handshakeAt, handshakeWritten}
+use Rattle.handshake.specs.Tables.{Tables}
+use Rattle.handshake.specs.Writes.{Config, built, builtWritten, handshakeAtRow, handshakeWritten}
 use Rattle.messages.specs.Value.{MessageValue, messageValue}
 use Rattle.messages.specs.Writes as Messages
 use Rattle.messages.specs.Writes.{MessageWrite, messageBytes, messageWritten}
@@ -22,23 +22,23 @@ use Rattle.walk.specs.Session.{Fields, handshakeFields, messageFields, C
 -- one call of a writer, with all that it was given
 pub data Write : Type 0 where
   -- a timestamp, the tables with their buffer, and the row of the entry
-  writeHandshake : ℕ → Lent → ℕ → Write
+  writeHandshake : ℕ → Tables → ℕ → Write
   writeBuilt : Config → Write
   writeMessage : MessageWrite → Write
 
 -- the value of a write and of an item: a timestamp with an entry, or a message
 pub data Value : Type 0 where
-  handshakeOf : HandshakeValue → Value
-  messageOf : MessageValue → Value
+  sessionHandshake : HandshakeValue → Value
+  sessionMessage : MessageValue → Value
 
 unfoldable pub writeValue : Write → Value
-writeValue (writeHandshake timestamp l k) = handshakeOf (handshakeAt timestamp l k)
-writeValue (writeBuilt c) = handshakeOf (built c)
-writeValue (writeMessage w) = messageOf (Messages.valueOf w)
+writeValue (writeHandshake timestamp ts k) = sessionHandshake (handshakeAtRow timestamp ts k)
+writeValue (writeBuilt c) = sessionHandshake (built c)
+writeValue (writeMessage w) = sessionMessage (Messages.valueOf w)
 
 unfoldable pub fieldsValue : Fields → Value
-fieldsValue (handshakeFields h) = handshakeOf (handshakeValue h)
-fieldsValue (messageFields code start m) = messageOf (messageValue code m)
+fieldsValue (handshakeFields h) = sessionHandshake (handshakeValue h)
+fieldsValue (messageFields code start m) = sessionMessage (messageValue code m)
 
 -- ---- what the types of a call's arguments say of the numbers that a reading gives back: a timestamp is a u64, an address and its port are of
 -- their widths, and a lent buffer is of bytes. Of the other numbers nothing needs to be said: the writers test them, or write them as they are
@@ -47,7 +47,7 @@ unfoldable pub bytesTyped : List ℕ → Bool
 bytesTyped l = every (λ b. ltb b 256) l
 
 unfoldable pub MessageTyped : MessageWrite → Type 0
-MessageTyped (Messages.writePeers l) = bytesTyped (l .buffer) ≡ true
+MessageTyped (Messages.writePeers ts) = bytesTyped (ts .buffer) ≡ true
 MessageTyped Messages.writeGetPeers = Unit {0}
 MessageTyped (Messages.writeModifierRequest type ids buffer) = Unit {0}
 MessageTyped (Messages.writeModifierResponse type payloads buffer) = Unit {0}
@@ -56,7 +56,7 @@ MessageTyped (Messages.writeSyncInfo body) = Unit {0}
 MessageTyped (Messages.writeUnknown code body) = Unit {0}
 
 unfoldable pub Typed : Write → Type 0
-Typed (writeHandshake timestamp l k) = (timestamp < 2 ^ 64) × (bytesTyped (l .buffer) ≡ true)
+Typed (writeHandshake timestamp ts k) = (timestamp < 2 ^ 64) × (bytesTyped (ts .buffer) ≡ true)
 Typed (writeBuilt c) = (c .timestamp < 2 ^ 64) × AddressTyped (c .address)
 Typed (writeMessage w) = MessageTyped w
 
@@ -71,12 +71,12 @@ pub data AllTyped : List Write → Type 0 where
 module _ (network : Network) (cap : ℕ) where
   -- what a write says, into an output from a place
   unfoldable pub said : Write → List ℕ → ℕ → Written
-  said (writeHandshake timestamp l k) out at = handshakeWritten timestamp l k out at
+  said (writeHandshake timestamp ts k) out at = handshakeWritten timestamp ts k out at
   said (writeBuilt c) out at = builtWritten c out at
   said (writeMessage w) out at = messageWritten network cap w out at
 
   unfoldable pub writeBytes : Write → List ℕ
-  writeBytes (writeHandshake timestamp l k) = handshakeBytes (handshakeAt timestamp l k)
+  writeBytes (writeHandshake timestamp ts k) = handshakeBytes (handshakeAtRow timestamp ts k)
   writeBytes (writeBuilt c) = handshakeBytes (built c)
   writeBytes (writeMessage w) = messageBytes network (Messages.valueOf w)
 
@@ -104,7 +104,7 @@ sessionBytes d = take (d .at) (d .out)
 
 -- exactly one handshake is accepted, before any message is
 unfoldable pub isHandshake : Write → Bool
-isHandshake (writeHandshake timestamp l k) = true
+isHandshake (writeHandshake timestamp ts k) = true
 isHandshake (writeBuilt c) = true
 isHandshake (writeMessage w) = false
 

@@ -25,7 +25,7 @@ use Rattle.messages.specs.Message as Bodies
 use Rattle.messages.specs.Message.{payload}
 use Rattle.messages.specs.PlacesLaws.{gives-payload}
 use Rattle.messages_inventory_read.specs.Answers.{idOf, payloadOf}
-use Rattle.messages_inventory_read.specs.Parts.{Items, items, itemsStart, itemOf, itemAt, idAt, payloadAt}
+use Rattle.messages_inventory_read.specs.Parts.{Items, items, itemsStart, itemByIndex, itemAt, idAt, payloadAt}
 use Rattle.messages_read.specs.Parts.{entries, entriesStart, entryAt}
 use Rattle.walk_read.specs.Given.{partIn}
 use Rattle.walk_by_index.specs.InStream.{isInside, inStream, streamEntry, streamPayload, fromBody, entryInStream, idInStream, payloadInStream}
@@ -56,8 +56,8 @@ module _ {A : Type 0} (p : List A → Reader A) (s : List ℕ) where
   abbrev ReadSomewhere : A → ℕ → Type 0
   ReadSomewhere a e = (before : List A) × (from : ℕ) × (p before s from ≡ got a e)
 
-  item-read : (n k at : ℕ) {a : A} {e : ℕ} → itemOf n k p s at ≡ got a e → ReadSomewhere a e
-  unfolding itemOf
+  item-read : (n k at : ℕ) {a : A} {e : ℕ} → itemByIndex n k p s at ≡ got a e → ReadSomewhere a e
+  unfolding itemByIndex
   item-read n k at {a} {e} q = go (ltb k n) q
     where
       go : (b : Bool) → cond b (bind (listOf k p s at) (λ l m. p l s m)) (refused 12) ≡ got a e → ReadSomewhere a e
@@ -67,7 +67,7 @@ module _ {A : Type 0} (p : List A → Reader A) (s : List ℕ) where
   item-at-read : (k : ℕ) {a : A} {e : ℕ} → itemAt k p s ≡ got a e → ReadSomewhere a e
   unfolding itemAt
   item-at-read k q =
-      let r = bind-got (items p s 0) (λ i next. itemOf (length (i .list)) k p s (itemsStart s)) q in
+      let r = bind-got (items p s 0) (λ i next. itemByIndex (length (i .list)) k p s (itemsStart s)) q in
       item-read (length (r .value .list)) k (itemsStart s) (r .rest)
 
 id-read : (k : ℕ) (s : List ℕ) {g : Segment} {e : ℕ} → idAt k s ≡ got g e → (from : ℕ) × PartGiven s from 32 g e
@@ -77,7 +77,7 @@ id-read k s {g} {e} q = let r = item-at-read (λ before. part 32) s k q in (r .1
 entry-read : (cap k : ℕ) (s : List ℕ) {a : Entry} {e : ℕ} → entryAt cap k s ≡ got a e → (from : ℕ) × (entry s from ≡ got a e)
 unfolding entryAt
 entry-read cap k s q =
-    let r = bind-got (entries cap s 0) (λ l next. itemOf (length l) k (λ before. entry) s (entriesStart s)) q in
+    let r = bind-got (entries cap s 0) (λ l next. itemByIndex (length l) k (λ before. entry) s (entriesStart s)) q in
     let x = item-read (λ before. entry) s (length (r .value)) k (entriesStart s) (r .rest) in
     (x .1, x .2)
 
@@ -115,8 +115,8 @@ module _ (s : List ℕ) (body : StreamPart) (fits : length s < 2 ^ 64) (inside :
   id-in-stream k {g} {e} q =
       let r = id-read k (partIn s body) q .1 in
       let l = body-length in
-      let u : g .start + 32 ≤ body .len = omega (arith, r .long, r .placed .within) in
-      let e32 : g .start + 32 ≡ e = omega (arith, r .long, r .end) in
+      let u : g .start + 32 ≤ body .len = omega (arith, r .size, r .placed .within) in
+      let e32 : g .start + 32 ≡ e = omega (arith, r .size, r .end) in
       let same : inStream body (g .start) .0 + 32 ≡ inStream body e .0 = omega (arith, in-stream (g .start) (omega arith), in-stream e (omega arith)) in (
         ap (got (inStream body (g .start))) same
             ∙ from-got (inStream body) s body (mapAnswer idOf (idAt k (partIn s body))) inside (ap (mapAnswer idOf) q ∙ map-value idOf g e),

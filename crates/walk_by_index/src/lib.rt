@@ -7,8 +7,8 @@ use frame_read::StreamPart;
 use handshake_read::PeerSpec;
 use messages_inventory_read::IdRead;
 use messages_inventory_read::Payload;
-use messages_inventory_read::PayloadAt;
-use messages_read::PeerRead;
+use messages_inventory_read::PayloadByIndexRead;
+use messages_read::PeerEntryRead;
 use types::Address;
 use types::BodyPlace;
 use types::Located;
@@ -65,11 +65,11 @@ pub fn entry_in_stream(s: &[u8], body: StreamPart, cap: usize, index: usize) -> 
     let from = body.start.0;
     let to = from + body.len;
     match messages_read::entry_by_index(&s[from..to], cap, index) {
-        PeerRead::Value(peer, end) => StreamEntryRead::Value(
+        PeerEntryRead::Value(peer, end) => StreamEntryRead::Value(
             entry_places(peer, body),
             in_stream(end, body),
         ),
-        PeerRead::Refused(m) => StreamEntryRead::Refused(m),
+        PeerEntryRead::Refused(m) => StreamEntryRead::Refused(m),
     }
 }
 
@@ -98,11 +98,11 @@ pub fn payload_in_stream(s: &[u8], body: StreamPart, index: usize) -> StreamPayl
     let from = body.start.0;
     let to = from + body.len;
     match messages_inventory_read::payload_by_index(&s[from..to], index) {
-        PayloadAt::Value(p, end) => StreamPayloadRead::Value(
+        PayloadByIndexRead::Value(p, end) => StreamPayloadRead::Value(
             payload_places(p, body),
             in_stream(end, body),
         ),
-        PayloadAt::Refused(m) => StreamPayloadRead::Refused(m),
+        PayloadByIndexRead::Refused(m) => StreamPayloadRead::Refused(m),
     }
 }
 

@@ -14,9 +14,9 @@ use Rattle.handshake.specs.Entry.{entry, feature}
 use Rattle.handshake_read.specs.Answers.{featureOf, peerSpecOf, featureAnswer}
 use Rattle.handshake_read.specs.Parts.{featureAt}
 use Rattle.messages.specs.Message.{payloadAfter}
-use Rattle.messages_inventory_read.specs.Answers.{idOf, payloadOf, payloadSum, idAnswer, payloadAnswer, payloadAtAnswer}
+use Rattle.messages_inventory_read.specs.Answers.{idOf, payloadOf, payloadSum, idAnswer, payloadAnswer, payloadByIndexAnswer}
 use Rattle.messages_inventory_read.specs.Parts.{idAt, payloadAt}
-use Rattle.messages_read.specs.Answers.{peerAnswer}
+use Rattle.messages_read.specs.Answers.{peerEntryAnswer}
 use Rattle.messages_read.specs.Parts.{entryAt}
 use Rattle.handshake_read.proofs.feature_by_index.Reads as feature_by_index
 use Rattle.handshake_read.proofs.read_feature.Reads as read_feature
@@ -41,11 +41,11 @@ pub id-by-index : (κs : Lfts 1) (body : _) (index : ℕ) (r left : _) → id_by
 id-by-index κs body index r left c = c
 
 pub payload-by-index : (κs : Lfts 1) (body : _) (index : ℕ) (r left : _) → payload_by_index.Post κs (body, (index, tt)) r left
-    → payloadAtAnswer r ≡ mapAnswer payloadOf (payloadAt index (now body))
+    → payloadByIndexAnswer r ≡ mapAnswer payloadOf (payloadAt index (now body))
 payload-by-index κs body index r left c = c
 
 pub entry-by-index : (κs : Lfts 1) (body : _) (cap index : ℕ) (r left : _) → entry_by_index.Post κs (body, (cap, (index, tt))) r left
-    → peerAnswer r ≡ mapAnswer peerSpecOf (entryAt cap index (now body))
+    → peerEntryAnswer r ≡ mapAnswer peerSpecOf (entryAt cap index (now body))
 entry-by-index κs body cap index r left c = c
 
 pub feature-by-index : (κs : Lfts 1) (s : _) (at : Cursor) (index : ℕ) (r left : _) → feature_by_index.Post κs (s, (at, (index, tt))) r left
@@ -59,7 +59,7 @@ pub payload-from : (κs : Lfts 1) (body : _) (at : BodyPlace) (total : ℕ) (r l
 payload-from κs body at total r left c = c
 
 pub entry-from : (κs : Lfts 1) (body : _) (at : BodyPlace) (r left : _) → read_entry.Post κs (body, (at, tt)) r left
-    → peerAnswer r ≡ mapAnswer peerSpecOf (entry (now body) (at .0))
+    → peerEntryAnswer r ≡ mapAnswer peerSpecOf (entry (now body) (at .0))
 entry-from κs body at r left c = c
 
 pub feature-from : (κs : Lfts 1) (s : _) (at : Cursor) (r left : _) → read_feature.Post κs (s, (at, tt)) r left

@@ -17,7 +17,7 @@ use Rattle.messages_read.specs.declared.Peers.{Peers}
 use Rattle.messages_read.specs.declared.Message.the-variants as Messages
 use Rattle.walk.specs.Session.{Content, sessionReading}
 use Rattle.walk.specs.Walk.{Layer, Item, clean, stopped, Reading}
-use Rattle.walk.specs.WrittenSession.{Write, writeMessage, messageOf, writeValue, Done}
+use Rattle.walk.specs.WrittenSession.{Write, writeMessage, sessionMessage, writeValue, Done}
 use Rattle.walk.specs.Calls.{Calls}
 use Rattle.walk.specs.Demands.{Exactly, AnEnd, IsCut, OfHandshake}
 use Rattle.walk_read.specs.Given.{given, GivenFrom, partIn}
@@ -29,8 +29,8 @@ use Rattle.walk_read.specs.declared.StepRead.the-variants as StepReads
 
 module _ (network : Network) (cap : ℕ) where
   -- "A buffer handed in as a [..] whole session, of any bytes and length, gets its reading": the steps from place 0 on come to an end
-  abbrev pub Answered : Type 0
-  Answered = (s : List ℕ) → (r : Reading StepRead) × GivenFrom network cap s 0 r
+  abbrev pub GivenAnswered : Type 0
+  GivenAnswered = (s : List ℕ) → (r : Reading StepRead) × GivenFrom network cap s 0 r
 
   -- ---- "cut a session of any bytes at whichever byte."
 
@@ -41,16 +41,16 @@ module _ (network : Network) (cap : ℕ) where
     pub before : GivenFrom network cap (take k s) 0 part
 
   -- "The part before the cut gives exactly those items of the full reading that end by the cut, in order, with the same fields and verdicts."
-  abbrev pub CutItems : Type 0
-  CutItems = (s : List ℕ) (k : ℕ) (full part : Reading StepRead) → Cut s k full part → Exactly (λ i. i .end ≤ k) (part .items) (full .items)
+  abbrev pub GivenCutItems : Type 0
+  GivenCutItems = (s : List ℕ) (k : ℕ) (full part : Reading StepRead) → Cut s k full part → Exactly (λ i. i .end ≤ k) (part .items) (full .items)
 
   -- "It ends cleanly exactly when the cut is an item's end."
-  abbrev pub CutCleanly : Type 0
-  CutCleanly = (s : List ℕ) (k : ℕ) (full part : Reading StepRead) → Cut s k full part → (part .ending ≡ clean) ↔ AnEnd k (full .items)
+  abbrev pub GivenCutCleanly : Type 0
+  GivenCutCleanly = (s : List ℕ) (k : ℕ) (full part : Reading StepRead) → Cut s k full part → (part .ending ≡ clean) ↔ AnEnd k (full .items)
 
   -- "Otherwise it stops where the last of those items ends, or at 0 if there are none;"
-  abbrev pub CutStops : Type 0
-  CutStops =
+  abbrev pub GivenCutStops : Type 0
+  GivenCutStops =
       (s : List ℕ) (k : ℕ) (full part : Reading StepRead) → Cut s k full part → ¬ (AnEnd k (full .items))
       → (layer : Layer) × (n : ℕ) × (at : ℕ)
       × (part .ending ≡ stopped layer n at)
@@ -58,8 +58,8 @@ module _ (network : Network) (cap : ℕ) where
       × (part .items ≡ [] → at ≡ 0)
 
   -- "and a stop that 01 doesn't count as a cut is the full reading's own, alike in layer, number and place."
-  abbrev pub CutOwnStop : Type 0
-  CutOwnStop =
+  abbrev pub GivenCutOwnStop : Type 0
+  GivenCutOwnStop =
       (s : List ℕ) (k : ℕ) (full part : Reading StepRead) → Cut s k full part → (layer : Layer) (n at : ℕ)
       → part .ending ≡ stopped layer n at → ¬ (IsCut layer n) → full .ending ≡ stopped layer n at
 
@@ -94,12 +94,12 @@ module _ (network : Network) (cap : ℕ) where
 
   -- "And for every list of our handshake and message writes from the start of one output, refused ones included, in which exactly one handshake is
   -- accepted, before any message is: the bytes written read as that handshake and the accepted messages, in order and by value, ending cleanly."
-  abbrev pub WritesRead : Type 0
-  WritesRead =
+  abbrev pub GivenWritesRead : Type 0
+  GivenWritesRead =
       (ws : List Write) (out : List ℕ) (d : Done) → Calls network cap ws out 0 d
       → (h : Write) (ms : List MessageWrite) → OfHandshake h → d .accepted ≡ h ∷ map writeMessage ms
       → (r : Reading StepRead) → GivenFrom network cap (take (d .at) (d .out)) 0 r
-      → (givenValues cap (take (d .at) (d .out)) (r .items) ≡ writeValue h ∷ map (λ m. messageOf (valueOf m)) ms) × (r .ending ≡ clean)
+      → (givenValues cap (take (d .at) (d .out)) (r .items) ≡ writeValue h ∷ map (λ m. sessionMessage (valueOf m)) ms) × (r .ending ≡ clean)
 
   -- ---- "a line that grows"
 
@@ -118,7 +118,7 @@ module _ (network : Network) (cap : ℕ) where
       → GivenFrom network cap (s ++ t) 0 (record { items = r .items ++ q .items; ending = q .ending })
 
   -- "and a stop that is no cut stays as it is."
-  abbrev pub StopStays : Type 0
-  StopStays =
+  abbrev pub GivenStopStays : Type 0
+  GivenStopStays =
       (s t : List ℕ) (r : Reading StepRead) (layer : Layer) (n at : ℕ)
       → GivenFrom network cap s 0 r → r .ending ≡ stopped layer n at → ¬ (IsCut layer n) → GivenFrom network cap (s ++ t) 0 r

@@ -23,7 +23,7 @@ use Rattle.walk.specs.Theorems.{GoesOn}
 use Rattle.walk.specs.TheoremsProved.{cut-anywhere, line-grows}
 use Rattle.walk.specs.Walk.{Item, Reading}
 use Rattle.walk.specs.WrittenSession.{Value, writeValue, sessionBytes, HandshakeFirst}
-use Rattle.walk_read.specs.Demands.{Answered, Cut, CutItems, CutCleanly, CutStops, CutOwnStop, CutByIndex, VerdictInOrder, PeersFromPlace, WritesRead, GrowsFromStop, GrowsFromEnd, StopStays}
+use Rattle.walk_read.specs.Demands.{GivenAnswered, Cut, GivenCutItems, GivenCutCleanly, GivenCutStops, GivenCutOwnStop, CutByIndex, VerdictInOrder, PeersFromPlace, GivenWritesRead, GrowsFromStop, GrowsFromEnd, GivenStopStays}
 use Rattle.walk_read.specs.Given.{GivenFrom, itemGiven, givenReading}
 use Rattle.walk_read.specs.GivenLaws.{given-cut, seen, steps-given}
 use Rattle.walk_read.specs.GivenTheoremsProved.{given-are-reading, given-by-cut, reached-by-index}
@@ -60,21 +60,21 @@ peers-of unknown p q = let z : _≡_ {A = ℕ} 0 1 = cc in absurd (omega arith)
 -- ---- the demands
 
 module _ (network : Network) (cap : ℕ) where
-  pub answered : Answered network cap
+  pub answered : GivenAnswered network cap
   answered s = (givenReading network cap s, given-are-reading network cap s (givenReading network cap s) .1 refl)
 
   rule : (s : List ℕ) (k : ℕ) (full part : Reading StepRead) → Cut network cap s k full part → CutRule k full part
   rule s k full part c = given-by-cut network cap s k (c .within) full part (c .whole) (c .before)
 
-  pub cut-items : CutItems network cap
+  pub cut-items : GivenCutItems network cap
   cut-items s k full part c = rw (rule s k full part c .items) (exactly-by k _)
 
-  pub cut-cleanly : CutCleanly network cap
+  pub cut-cleanly : GivenCutCleanly network cap
   cut-cleanly s k full part c =
       let r = rule s k full part c .cleanly in
       (λ e. an-end (r .0 e), λ a. r .1 (end-at k _ a))
 
-  pub cut-stops : CutStops network cap
+  pub cut-stops : GivenCutStops network cap
   cut-stops s k full part c not =
       let u = rule s k full part c in
       let r = u .stops (λ e. not (an-end e)) in (
@@ -86,7 +86,7 @@ module _ (network : Network) (cap : ℕ) where
         λ e. ap (lastEnd 0) (sym (u .items) ∙ e) ∙ no-items StepRead,
       )
 
-  pub cut-own-stop : CutOwnStop network cap
+  pub cut-own-stop : GivenCutOwnStop network cap
   cut-own-stop s k full part c layer n at e not = rule s k full part c .own layer n at e (λ t. not (is-cut layer n t))
 
   pub cut-by-index : CutByIndex network cap
@@ -107,7 +107,7 @@ module _ (network : Network) (cap : ℕ) where
       let x = peers-of (g .3) p e in
       (x .0, g .1, sym (x .1 .0), x .1 .1)
 
-  pub writes-read : WritesRead network cap
+  pub writes-read : GivenWritesRead network cap
   unfolding sessionBytes
   writes-read ws out d calls h ms o e r g =
       let f : HandshakeFirst (d .accepted) = rw e (handshake-first h ms o) in
@@ -156,7 +156,7 @@ module _ (network : Network) (cap : ℕ) where
   pub grows-from-end : GrowsFromEnd network cap
   grows-from-end s t r q g e f = goes s t (length s) r q (line-grows network cap s t .ended (ending-of s r g ∙ e)) g f
 
-  pub stop-stays : StopStays network cap
+  pub stop-stays : GivenStopStays network cap
   unfolding givenReading
   stop-stays s t r layer n at g e not =
       let w = line-grows network cap s t .stays layer n at (ending-of s r g ∙ e) (λ c. not (is-cut layer n c)) in

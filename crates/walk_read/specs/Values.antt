@@ -8,16 +8,16 @@ use Rattle.messages_read.specs.declared.Message.{Message}
 use Rattle.messages_read.specs.declared.Message.the-variants as Messages
 use Rattle.walk.specs.Session.{Verdict, peerVerdict, peersVerdict, noVerdict}
 use Rattle.walk.specs.Walk.{Item}
-use Rattle.walk.specs.WrittenSession.{Value, handshakeOf, messageOf}
+use Rattle.walk.specs.WrittenSession.{Value, sessionHandshake, sessionMessage}
 use Rattle.walk_read.specs.Given.{partIn}
 use Rattle.walk_read.specs.declared.StepRead.{StepRead}
 use Rattle.walk_read.specs.declared.StepRead.the-variants as StepReads
 
 -- an end or a stop has no value
 unfoldable pub givenValue : ℕ → List ℕ → StepRead → List Value
-givenValue cap s (StepReads.Handshake i) = handshakeOf (handshakeGiven s (i .handshake)) ∷ []
+givenValue cap s (StepReads.Handshake i) = sessionHandshake (handshakeGiven s (i .handshake)) ∷ []
 givenValue cap s (StepReads.Message i) =
-    messageOf (messageGiven cap (i .code) (partIn s (i .body)) (i .message)) ∷ []
+    sessionMessage (messageGiven cap (i .code) (partIn s (i .body)) (i .message)) ∷ []
 givenValue cap s StepReads.End = []
 givenValue cap s (StepReads.Stop t) = []
 givenValue cap s StepReads.Outside = []

@@ -20,7 +20,7 @@ use Rattle.walk.specs.Session.{Fields, Verdict, Content, messageVerdict, handsh
 use Rattle.walk.specs.SessionLaws.{session-readers}
 use Rattle.walk.specs.Walk.{opened, Item, item}
 use Rattle.walk.specs.WalkLaws.{openAt}
-use Rattle.walk.specs.WrittenSession.{Value, handshakeOf, messageOf, fieldsValue, itemValues}
+use Rattle.walk.specs.WrittenSession.{Value, sessionHandshake, sessionMessage, fieldsValue, itemValues}
 use Rattle.walk_read.specs.Given.{itemGiven}
 use Rattle.walk_read.specs.Steps.{itemOf, stepOf}
 use Rattle.walk_read.specs.Values.{givenValue, givenValues, messageVerdictGiven, verdictGiven}
@@ -29,11 +29,11 @@ module _ (network : Network) (cap : ℕ) (s : List ℕ) where
   fields-given : (at : ℕ) {g : Fields} {end : ℕ} → FieldsRead network cap s at g end → (v : Verdict)
       → givenValue cap s (itemOf network s at end g v) ≡ fieldsValue g ∷ []
   unfolding itemOf givenValue fieldsValue
-  fields-given at (aHandshake q) v = ap (λ x. handshakeOf x ∷ []) (handshake-given s q)
+  fields-given at (aHandshake q) v = ap (λ x. sessionHandshake x ∷ []) (handshake-given s q)
   fields-given at (aMessage {f = f} {e = e} q b) v =
       let p = frame-places network s at q in
       let n : e - f .body .start ≡ length (f .body .bytes) = omega (arith, p .ends) in
-      rw (n, ← p .stands) (ap (λ x. messageOf x ∷ []) (message-given (f .body .bytes) network cap (f .code) b))
+      rw (n, ← p .stands) (ap (λ x. sessionMessage x ∷ []) (message-given (f .body .bytes) network cap (f .code) b))
 
   -- where each answer is made the value of its item
   made-each : (is : List (Item Content)) → Each (λ i. givenValue cap s (stepOf network s (item i)) ≡ fieldsValue (i .holds .fields) ∷ []) is

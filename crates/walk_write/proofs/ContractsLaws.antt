@@ -7,7 +7,7 @@ use mathlib.Core.Path.{_≡_}
 use denote.Ref.{now}
 use contract.Lifetimes.{Lfts}
 use Rattle.types.specs.declared.Network.{Network}
-use Rattle.handshake.specs.Tables.{Lent, lent}
+use Rattle.handshake.specs.Tables.{Tables, tables}
 use Rattle.handshake_build.specs.Parts.{configOf}
 use Rattle.messages.specs.Writes.{MessageWrite, writeGetPeers, writePeers, writeModifierRequest, writeModifierResponse, writeInv, writeSyncInfo, writeUnknown}
 use Rattle.walk.specs.WrittenSession.{writeHandshake, writeBuilt, writeMessage}
@@ -27,19 +27,19 @@ use Rattle.messages_write.proofs.write_unknown.Reads as write_unknown
 abbrev Other : MessageWrite → Type 0
 Other (writePeers l) = ⊥
 Other writeGetPeers = Unit {0}
-Other (writeModifierRequest kind ids buffer) = Unit {0}
-Other (writeModifierResponse kind payloads buffer) = Unit {0}
-Other (writeInv kind ids buffer) = Unit {0}
+Other (writeModifierRequest type ids buffer) = Unit {0}
+Other (writeModifierResponse type payloads buffer) = Unit {0}
+Other (writeInv type ids buffer) = Unit {0}
 Other (writeSyncInfo body) = Unit {0}
 Other (writeUnknown code body) = Unit {0}
 
-other-message : (w : MessageWrite) → Other w → (l : Lent) → w ≡ writePeers l → ⊥
+other-message : (w : MessageWrite) → Other w → (l : Tables) → w ≡ writePeers l → ⊥
 other-message w o l e = rw e at o
 
 module _ (network : Network) (cap : ℕ) where
   pub handshake-called : (κs : Lfts 4) (out : _) (at timestamp : ℕ) (entries features buffer : _) (k : ℕ) (r left : _)
       → write_handshake.Post κs (out, (at, (timestamp, (entries, (features, (buffer, (k, tt))))))) r left
-      → Called network cap (writeHandshake timestamp (lent (now entries) (now features) (now buffer)) k) (now out) at r (now (left .0))
+      → Called network cap (writeHandshake timestamp (tables (now entries) (now features) (now buffer)) k) (now out) at r (now (left .0))
   handshake-called κs out at timestamp entries features buffer k r left c = called-handshake network cap _ _ _ (c .0) (c .1 .0) (c .1 .1)
 
   pub built-called : (κs : Lfts 3) (out : _) (at : ℕ) (config agent name : _) (r left : _)
@@ -49,7 +49,7 @@ module _ (network : Network) (cap : ℕ) where
 
   pub peers-called : (κs : Lfts 4) (out : _) (at : ℕ) (entries features buffer : _) (r left : _)
       → write_peers.Post κs (out, (at, (network, (cap, (entries, (features, (buffer, tt))))))) r left
-      → Called network cap (writeMessage (writePeers (lent (now entries) (now features) (now buffer)))) (now out) at r (now (left .0))
+      → Called network cap (writeMessage (writePeers (tables (now entries) (now features) (now buffer)))) (now out) at r (now (left .0))
   peers-called κs out at entries features buffer r left c = called-peers network cap _ (c .0) (c .1 .0) (c .1 .1)
 
   pub get-peers-called : (κs : Lfts 1) (out : _) (at : ℕ) (r left : _)
@@ -58,22 +58,22 @@ module _ (network : Network) (cap : ℕ) where
   get-peers-called κs out at r left c =
       called-message network cap _ (other-message _ tt) (c .0) (c .1)
 
-  pub modifier-request-called : (κs : Lfts 3) (out : _) (at kind : ℕ) (ids buffer : _) (r left : _)
-      → write_modifier_request.Post κs (out, (at, (network, (kind, (ids, (buffer, tt)))))) r left
-      → Called network cap (writeMessage (writeModifierRequest kind (now ids) (now buffer))) (now out) at r (now (left .0))
-  modifier-request-called κs out at kind ids buffer r left c =
+  pub modifier-request-called : (κs : Lfts 3) (out : _) (at type : ℕ) (ids buffer : _) (r left : _)
+      → write_modifier_request.Post κs (out, (at, (network, (type, (ids, (buffer, tt)))))) r left
+      → Called network cap (writeMessage (writeModifierRequest type (now ids) (now buffer))) (now out) at r (now (left .0))
+  modifier-request-called κs out at type ids buffer r left c =
       called-message network cap _ (other-message _ tt) (c .0) (c .1)
 
-  pub modifier-response-called : (κs : Lfts 3) (out : _) (at kind : ℕ) (payloads buffer : _) (r left : _)
-      → write_modifier_response.Post κs (out, (at, (network, (kind, (payloads, (buffer, tt)))))) r left
-      → Called network cap (writeMessage (writeModifierResponse kind (now payloads) (now buffer))) (now out) at r (now (left .0))
-  modifier-response-called κs out at kind payloads buffer r left c =
+  pub modifier-response-called : (κs : Lfts 3) (out : _) (at type : ℕ) (payloads buffer : _) (r left : _)
+      → write_modifier_response.Post κs (out, (at, (network, (type, (payloads, (buffer, tt)))))) r left
+      → Called network cap (writeMessage (writeModifierResponse type (now payloads) (now buffer))) (now out) at r (now (left .0))
+  modifier-response-called κs out at type payloads buffer r left c =
       called-message network cap _ (other-message _ tt) (c .0) (c .1)
 
-  pub inv-called : (κs : Lfts 3) (out : _) (at kind : ℕ) (ids buffer : _) (r left : _)
-      → write_inv.Post κs (out, (at, (network, (kind, (ids, (buffer, tt)))))) r left
-      → Called network cap (writeMessage (writeInv kind (now ids) (now buffer))) (now out) at r (now (left .0))
-  inv-called κs out at kind ids buffer r left c =
+  pub inv-called : (κs : Lfts 3) (out : _) (at type : ℕ) (ids buffer : _) (r left : _)
+      → write_inv.Post κs (out, (at, (network, (type, (ids, (buffer, tt)))))) r left
+      → Called network cap (writeMessage (writeInv type (now ids) (now buffer))) (now out) at r (now (left .0))
+  inv-called κs out at type ids buffer r left c =
       called-message network cap _ (other-message _ tt) (c .0) (c .1)
 
   pub sync-info-called : (κs : Lfts 2) (out : _) (at : ℕ) (body : _) (r left : _)

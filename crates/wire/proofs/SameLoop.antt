@@ -15,12 +15,12 @@ use Rattle.wire.specs.Bytes.{sameBytes}
 -- the bytes of k and those at a place, as far as i
 pub record SameSoFar (s : List ℕ) (at n : ℕ) (k : List ℕ) (i : ℕ) : Type 0 where
   pub few : i ≤ n
-  pub long : length k ≡ n
+  pub size : length k ≡ n
   pub inside : at + n ≤ length s
   pub same : sameBytes (take n (drop at s)) k ≡ sameBytes (take (n - i) (drop (at + i) s)) (drop i k)
 
 pub same-start : (s : List ℕ) (at n : ℕ) (k : List ℕ) → length k ≡ n → at + n ≤ length s → SameSoFar s at n k 0
-same-start s at n k l h = record { few = omega arith; long = l; inside = h; same = rw (sub-zero, add-zero) }
+same-start s at n k l h = record { few = omega arith; size = l; inside = h; same = rw (sub-zero, add-zero) }
 
 module _ {s : List ℕ} {at n : ℕ} {k : List ℕ} {i : ℕ} (inv : SameSoFar s at n k i) where
   same-next : i < n → sameBytes (take n (drop at s)) k
@@ -29,10 +29,10 @@ module _ {s : List ℕ} {at n : ℕ} {k : List ℕ} {i : ℕ} (inv : SameSoFar s
   same-next h =
       let f : n - i ≡ suc (n - (i + 1)) = omega arith in
       let a : at + (i + 1) ≡ suc (at + i) = omega arith in
-      inv .same ∙ rw (f, a, drop-cons s (at + i) 0 (omega (arith, inv .inside)), drop-cons k i 0 (omega (arith, inv .long)), add-one i)
+      inv .same ∙ rw (f, a, drop-cons s (at + i) 0 (omega (arith, inv .inside)), drop-cons k i 0 (omega (arith, inv .size)), add-one i)
 
   pub same-again : i < n → getD s (at + i) 0 ≡ getD k i 0 → SameSoFar s at n k (i + 1)
-  same-again h e = record { few = omega arith; long = inv .long; inside = inv .inside; same = same-next h ∙ rw (eq-eqb (getD s (at + i) 0) (getD k i 0) e) }
+  same-again h e = record { few = omega arith; size = inv .size; inside = inv .inside; same = same-next h ∙ rw (eq-eqb (getD s (at + i) 0) (getD k i 0) e) }
 
   pub same-other : i < n → (getD s (at + i) 0 ≡ getD k i 0 → ⊥) → false ≡ sameBytes (take n (drop at s)) k
   same-other h e = sym (same-next h ∙ rw (ne-eqb (getD s (at + i) 0) (getD k i 0) e))
@@ -41,7 +41,7 @@ module _ {s : List ℕ} {at n : ℕ} {k : List ℕ} {i : ℕ} (inv : SameSoFar s
   unfolding sameBytes
   same-end h =
       let f : n - i ≡ 0 = omega arith in
-      let l : length k ≤ i = omega (arith, inv .long) in
+      let l : length k ≤ i = omega (arith, inv .size) in
       sym (inv .same ∙ rw (f, drop-of-length-le k l))
 
 and-false : (b : Bool) → b && false ≡ false

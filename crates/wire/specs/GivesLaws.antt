@@ -20,7 +20,7 @@ pub record Gives {A : Type 0} (s : List ℕ) (at : ℕ) (P : A → ℕ → Type 
 -- a part of n bytes: they stand where it was read, and it ends after them
 pub record PartGiven (s : List ℕ) (at n : ℕ) (g : Segment) (e : ℕ) : Type 0 where
   pub start : g .start ≡ at
-  pub long : length (g .bytes) ≡ n
+  pub size : length (g .bytes) ≡ n
   pub placed : Placed s g
   pub end : g .start + length (g .bytes) ≡ e
 
@@ -59,7 +59,7 @@ module _ {s : List ℕ} {at : ℕ} where
           let l : length (g .bytes) ≡ n = ap length (p .bytes) ∙ length-part n s at (p .inside) in
           record {
             start = p .start;
-            long = l;
+            size = l;
             placed = record { within = rw (l, p .start) (p .inside); bytes = rw (l, p .start) (sym (p .bytes)) };
             end = rw (l, p .start) (sym (p .end));
           }

@@ -99,10 +99,10 @@ wrote-length {out} {at} {bs} w = ap length (w .bytes) ∙ length-put out at bs
 pub record Writing (out : List ℕ) (at : ℕ) (bs : List ℕ) (m : ℕ) (mid rest : List ℕ) : Type 0 where
   pub end : m + length rest ≡ at + length bs
   pub bytes : put mid m rest ≡ put out at bs
-  pub long : length mid ≡ length out
+  pub size : length mid ≡ length out
 
 pub writing-start : (out : List ℕ) (at : ℕ) (bs : List ℕ) → Writing out at bs at out bs
-writing-start out at bs = record { end = refl; bytes = refl; long = refl }
+writing-start out at bs = record { end = refl; bytes = refl; size = refl }
 
 -- a turn writes a, the first part of the rest
 pub writing-turn : {out : List ℕ} {at : ℕ} {bs : List ℕ} {m : ℕ} {mid : List ℕ} {e : ℕ} {last rest : List ℕ} (a b : List ℕ)
@@ -113,7 +113,7 @@ writing-turn {out} {at} {bs} {m} {mid} {e} {last} {rest} a b p s w =
       bytes =
           ap (λ (o : List ℕ). put o e b) (w .bytes) ∙ ap (λ (k : ℕ). put (put mid m a) k b) (w .end)
           ∙ put-put a mid m b ∙ ap (λ (r : List ℕ). put mid m r) (sym p) ∙ s .bytes;
-      long = wrote-length w ∙ s .long;
+      size = wrote-length w ∙ s .size;
     }
 
 pub writing-end : {out : List ℕ} {at : ℕ} {bs : List ℕ} {m : ℕ} {mid rest : List ℕ} → rest ≡ [] → Writing out at bs m mid rest → Wrote out at bs m mid
@@ -124,7 +124,7 @@ writing-end {out} {at} {bs} {m} {mid} {rest} z s =
 -- where the whole has room, so has the first part of the rest
 pub writing-room : {out : List ℕ} {at : ℕ} {bs : List ℕ} {m : ℕ} {mid rest : List ℕ} (a b : List ℕ)
     → rest ≡ a ++ b → Writing out at bs m mid rest → at + length bs ≤ length out → m + length a ≤ length mid
-writing-room a b p s h = omega (arith, s .end, s .long, length-append a b, ap length p)
+writing-room a b p s h = omega (arith, s .end, s .size, length-append a b, ap length p)
 
 -- ---- what a writer says, and what its caller knows
 

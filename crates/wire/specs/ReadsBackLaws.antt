@@ -14,8 +14,8 @@ use Rattle.wire.specs.Output.{put}
 use Rattle.wire.specs.OutputLaws.{length-put, put-here}
 
 module _ {s : List ℕ} {at : ℕ} (a b : List ℕ) (h : StandsAt s at (a ++ b)) where
-  long : at + (length a + length b) ≤ length s
-  long = let e = length-append a b in omega (arith, h .within)
+  size : at + (length a + length b) ≤ length s
+  size = let e = length-append a b in omega (arith, h .within)
 
   both : take (length a + length b) (drop at s) ≡ a ++ b
   both = ap (λ (n : ℕ). take n (drop at s)) (sym (length-append a b)) ∙ h .bytes
@@ -24,11 +24,11 @@ module _ {s : List ℕ} {at : ℕ} (a b : List ℕ) (h : StandsAt s at (a ++ b))
   left = sym (take-take (length a) (length a + length b) (drop at s) (omega arith)) ∙ ap (take (length a)) both ∙ take-append-seam a b
 
   pub stands-left : StandsAt s at a
-  stands-left = record { within = omega (arith, long); bytes = left }
+  stands-left = record { within = omega (arith, size); bytes = left }
 
   pub stands-right : StandsAt s (at + length a) b
   stands-right = record {
-    within = omega (arith, long);
+    within = omega (arith, size);
     bytes =
         let e : take (length a) (drop at s) ++ take (length b) (drop (length a) (drop at s)) ≡ a ++ b = sym (take-add (length a) (length b) (drop at s)) ∙ both in
         let f : a ++ take (length b) (drop (length a) (drop at s)) ≡ a ++ b = ap (λ (l : List ℕ). l ++ take (length b) (drop (length a) (drop at s))) (sym left) ∙ e in

@@ -26,7 +26,7 @@ pub enum Size {
 }
 
 // Do these four bytes stand at a place?
-pub fn stands_at(s: &[u8], at: usize, four: [u8; 4]) -> bool
+pub fn matches_at(s: &[u8], at: usize, four: [u8; 4]) -> bool
     ensures { λ r. ⌜ r ≡ sameBytes (take 4 (drop at (now (s .entry)))) four ⌝ }
 {
     if s.len() < at {

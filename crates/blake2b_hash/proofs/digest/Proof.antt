@@ -7,15 +7,15 @@ use native.Mathlib.Omega.{arith}
 use lib.Dec.{lit≤}
 use lib.ListN.{length}
 use Rattle.blake2b_hash.specs.declared.Hash.{Hash}
-use Rattle.blake2b.specs.Blake2b.{limit, blake2b}
+use Rattle.blake2b.specs.Blake2b.{llBound, blake2b}
 use Rattle.blake2b_hash.specs.Running.{started, finished}
 use Rattle.blake2b_hash.specs.RunningLaws.{finished-started}
 use borrow.Author.Needs.{needs}
 use Rattle.blake2b_hash.proofs.digest.Statement.{statement}
 use Rattle.blake2b_hash.proofs.digest.Tie as tie
 
-short : (n : ℕ) → n < 2 ^ 64 → n < limit
-unfolding limit
+short : (n : ℕ) → n < 2 ^ 64 → n < llBound
+unfolding llBound
 short n l = lt-of-lt-of-le l (lit≤ tt)
 
 law : (x : Hash) (s r : List ℕ) → length s < 2 ^ 64 → x ≡ started 32 → r ≡ finished 32 x s → r ≡ blake2b 32 s

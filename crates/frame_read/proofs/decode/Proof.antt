@@ -25,13 +25,13 @@ returns-2 c = let a = c .before .before .before .args in sym (frame-short (a .ne
 magic-requires : tie.Need-magic-requires
 magic-requires c κs = search needs
 
-stands-at-requires : tie.Need-stands-at-requires
-stands-at-requires c κs = search needs
+matches-at-requires : tie.Need-matches-at-requires
+matches-at-requires c κs = search needs
 
 returns-3 : tie.Need-returns-3
 returns-3 c =
     let a = c .before .before .before .before .before .before .args in
-    let m = sym (c .before .stands-at .ensures ∙ ap (sameBytes (take 4 (drop (a .at .0) (now (a .s))))) (c .before .before .magic .ensures)) ∙ not-true _ (c .if3 .taken) in
+    let m = sym (c .before .matches-at .ensures ∙ ap (sameBytes (take 4 (drop (a .at .0) (now (a .s))))) (c .before .before .magic .ensures)) ∙ not-true _ (c .if3 .taken) in
     sym (frame-other (a .network) (now (a .s)) (a .at .0) (omega arith) m)
 
 returns-4 : tie.Need-returns-4
@@ -39,7 +39,7 @@ returns-4 c =
     let f = c .before in
     let t = f .before .before .before in
     let a = t .before .before .before .before .before .args in
-    let m = sym (t .stands-at .ensures ∙ ap (sameBytes (take 4 (drop (a .at .0) (now (a .s))))) (t .before .magic .ensures)) ∙ not-false _ (f .before .before .if3 .left) in
+    let m = sym (t .matches-at .ensures ∙ ap (sameBytes (take 4 (drop (a .at .0) (now (a .s))))) (t .before .magic .ensures)) ∙ not-false _ (f .before .before .if3 .left) in
     let n = number-part 4 (now (a .s)) (a .at .0 + 5) (a .at .0 + 9) (omega arith) (f .big-endian-4 .ensures) in
     sym (frame-long (a .network) (now (a .s)) (a .at .0) _ (omega arith) m n (c .if4 .taken))
 
@@ -66,7 +66,7 @@ returns-5 c =
     let f = c .before .before .before .before .before .before in
     let t = f .before .before .before in
     let a = t .before .before .before .before .before .args in
-    let m = sym (t .stands-at .ensures ∙ ap (sameBytes (take 4 (drop (a .at .0) (now (a .s))))) (t .before .magic .ensures)) ∙ not-false _ (f .before .before .if3 .left) in
+    let m = sym (t .matches-at .ensures ∙ ap (sameBytes (take 4 (drop (a .at .0) (now (a .s))))) (t .before .magic .ensures)) ∙ not-false _ (f .before .before .if3 .left) in
     let n = number-part 4 (now (a .s)) (a .at .0 + 5) (a .at .0 + 9) (omega arith) (f .big-endian-4 .ensures) in
     let b = sym (c .before .before .before .read-body .ensures) ∙ ap bodyAnswer (c .before .body .given .1) in
     sym (frame-got (a .network) (now (a .s)) (a .at .0) _ (omega arith) m n (omega arith) _ _ b)
@@ -76,7 +76,7 @@ returns-6 c =
     let f = c .before .before .before .before .before .before in
     let t = f .before .before .before in
     let a = t .before .before .before .before .before .args in
-    let m = sym (t .stands-at .ensures ∙ ap (sameBytes (take 4 (drop (a .at .0) (now (a .s))))) (t .before .magic .ensures)) ∙ not-false _ (f .before .before .if3 .left) in
+    let m = sym (t .matches-at .ensures ∙ ap (sameBytes (take 4 (drop (a .at .0) (now (a .s))))) (t .before .magic .ensures)) ∙ not-false _ (f .before .before .if3 .left) in
     let n = number-part 4 (now (a .s)) (a .at .0 + 5) (a .at .0 + 9) (omega arith) (f .big-endian-4 .ensures) in
     let b = sym (c .before .before .before .read-body .ensures) ∙ ap bodyAnswer (c .before .m .given .1) in
     sym (frame-refused (a .network) (now (a .s)) (a .at .0) _ (omega arith) m n (omega arith) _ b)
@@ -89,7 +89,7 @@ decode-spec =
     sub-if2
     returns-2
     magic-requires
-    stands-at-requires
+    matches-at-requires
     returns-3
     (λ c. search needs)
     (λ c. search needs)

@@ -41,20 +41,20 @@ part-check-end c = search needs
 check-requires : tie.Need-check-requires
 check-requires c κs = search needs
 
-stands-at-requires : tie.Need-stands-at-requires
-stands-at-requires c κs = search needs
+matches-at-requires : tie.Need-matches-at-requires
+matches-at-requires c κs = search needs
 
 returns-3 : tie.Need-returns-3
 returns-3 c =
     let a = c .before .before .before .before .before .before .before .args in
     let e = ap (sameBytes (take 4 (drop (a .at) (now (a .s))))) (c .before .before .check .ensures) in
-    sym (body-got (now (a .s)) (a .at) (a .n) false (omega arith) (omega arith) (sym (c .before .stands-at .ensures ∙ e) ∙ not-true _ (c .if3 .taken)))
+    sym (body-got (now (a .s)) (a .at) (a .n) false (omega arith) (omega arith) (sym (c .before .matches-at .ensures ∙ e) ∙ not-true _ (c .if3 .taken)))
 
 returns-4 : tie.Need-returns-4
 returns-4 c =
     let a = c .before .before .before .before .before .before .before .args in
     let e = ap (sameBytes (take 4 (drop (a .at) (now (a .s))))) (c .before .before .check .ensures) in
-    sym (body-got (now (a .s)) (a .at) (a .n) true (omega arith) (omega arith) (sym (c .before .stands-at .ensures ∙ e) ∙ not-false _ (c .if3 .left)))
+    sym (body-got (now (a .s)) (a .at) (a .n) true (omega arith) (omega arith) (sym (c .before .matches-at .ensures ∙ e) ∙ not-false _ (c .if3 .left)))
 
 pub read-body-spec : {M : Type 1} → statement M
 read-body-spec =
@@ -70,6 +70,6 @@ read-body-spec =
     part-check-start
     part-check-end
     check-requires
-    stands-at-requires
+    matches-at-requires
     returns-3
     returns-4)

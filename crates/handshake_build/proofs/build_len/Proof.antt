@@ -10,7 +10,7 @@ use borrow.Author.Needs.{needs}
 use Rattle.vlq.specs.VlqLaws.{vlq-ten}
 use Rattle.handshake.specs.Value.{featureBytes}
 use Rattle.handshake_features_write.specs.Features.{modeFeatureOf, sessionFeatureOf}
-use Rattle.handshake_build.specs.Parts.{modeBytes, sessionBytes}
+use Rattle.handshake_build.specs.Parts.{modeFeatureBytes, sessionFeatureBytes}
 use Rattle.handshake_build.proofs.build_len.Statement.{statement}
 use Rattle.handshake_build.proofs.build_len.Tie as tie
 
@@ -28,12 +28,12 @@ add-result-4 c =
     omega (arith, c .before .before .before .before .before .vlq-len .ensures, t, c .before .before .before .before .address-len .ensures .1, c .before .before .mode-len .ensures .1, c .session-len .ensures .1)
 
 returns : tie.Need-returns
-unfolding modeBytes sessionBytes
+unfolding modeFeatureBytes sessionFeatureBytes
 returns c =
     let g = c .before .before .before .before .before .before .args .config in
-    let blocks : SFits w32 (g .blocks) = record { sfits = c .before .before .before .struct-told .given .1 .1 .1 .1 .0 .1 } in
+    let blocksToKeep : SFits w32 (g .«blocks_to_keep») = record { sfits = c .before .before .before .struct-told .given .1 .1 .1 .1 .0 .1 } in
     let session : SFits w64 (g .session) = record { sfits = c .before .struct-told2 .given .1 .1 .1 .1 .1 .1 .1 .1 .0 .1 } in
-    let m = c .before .before .mode-len .ensures .0 (g .statetype) (g .verifying) ∙ ap (λ (x : ℤ). length (featureBytes (modeFeatureOf (g .mode) (g .statetype) (g .verifying) x))) (toZ-ofZ blocks) in
+    let m = c .before .before .mode-len .ensures .0 (g .«state_type_id») (g .verifying) ∙ ap (λ (x : ℤ). length (featureBytes (modeFeatureOf (g .mode) (g .«state_type_id») (g .verifying) x))) (toZ-ofZ blocksToKeep) in
     let s = c .session-len .ensures .0 (g .network) ∙ ap (λ (x : ℤ). length (featureBytes (sessionFeatureOf (g .network) x))) (toZ-ofZ session) in
     (omega (arith, c .before .before .before .before .before .vlq-len .ensures, c .before .before .before .before .address-len .ensures .0, m, s), omega (arith, m, c .before .before .mode-len .ensures .1), omega (arith, s, c .session-len .ensures .1))
 

@@ -7,7 +7,7 @@ use denote.Ref.{now}
 use borrow.Author.Needs.{needs}
 use Rattle.wire.specs.OutputLaws.{wrote-then, wrote-length}
 use Rattle.handshake.specs.Value.{addressBytes}
-use Rattle.handshake_build.specs.Parts.{headBytes}
+use Rattle.handshake_build.specs.Parts.{beforeAddressBytes}
 use Rattle.handshake_build.specs.PartsLaws.{wrote-end, built-parts, length-built}
 use Rattle.handshake_build.proofs.put_build.Statement.{statement}
 use Rattle.handshake_build.proofs.put_build.Tie as tie
@@ -29,7 +29,7 @@ put-features-requires c κs =
     let p = w .before .before .before .before in
     let s = p .before .before .before .before .before in
     let a = s .args in
-    let head = headBytes (a .config) (now (a .agent)) (now (a .name)) in
+    let head = beforeAddressBytes (a .config) (now (a .agent)) (now (a .name)) in
     let size = length-built (a .config) (now (a .agent)) (now (a .name)) in
     let w1 = p .put-head .ensures in
     let l1 = wrote-length {bs = head} w1 in
@@ -44,7 +44,7 @@ returns c =
     let p = w .before .before .before .before in
     let s = p .before .before .before .before .before in
     let a = s .args in
-    let head = headBytes (a .config) (now (a .agent)) (now (a .name)) in
+    let head = beforeAddressBytes (a .config) (now (a .agent)) (now (a .name)) in
     let size = length-built (a .config) (now (a .agent)) (now (a .name)) in
     let w1 = p .put-head .ensures in
     let l1 = wrote-length {bs = head} w1 in

@@ -12,7 +12,7 @@ use Rattle.vlq.specs.Vlq.{vlqBytes}
 use Rattle.vlq.specs.ShortString.{maxShortString, shortStringBytes}
 use Rattle.vlq_write.specs.Asked.{shortStringAsked}
 use Rattle.handshake.specs.Value.{versionBytes}
-use Rattle.handshake_build.specs.Parts.{headBytes}
+use Rattle.handshake_build.specs.Parts.{beforeAddressBytes}
 use Rattle.handshake_build.specs.PartsLaws.{wrote-end, length-head}
 use Rattle.handshake_build.proofs.put_head.Statement.{statement}
 use Rattle.handshake_build.proofs.put_head.Tie as tie
@@ -68,7 +68,7 @@ add-result-2 c =
     omega (arith, s .pre .1, v .vlq-len .ensures, p .put-version .ensures .end, length-head (a .config) (now (a .agent)) (now (a .name)))
 
 returns : tie.Need-returns
-unfolding headBytes versionBytes
+unfolding beforeAddressBytes versionBytes
 returns c =
     let l = c .before .before in
     let p = l .before .before .before .before in

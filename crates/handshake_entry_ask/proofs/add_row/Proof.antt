@@ -3,24 +3,24 @@ use mathlib.Core.Path.{ap}
 use borrow.Author.Needs.{needs}
 use Rattle.wire.specs.Earliest.{together}
 use Rattle.wire.specs.declared.Size.the-variants.{Bytes, Refused}
-use Rattle.handshake_entry_ask.specs.Asked.{counted}
+use Rattle.handshake_entry_ask.specs.Asked.{countedToLimit}
 use Rattle.handshake_entry_ask.proofs.add_row.Statement.{statement}
 use Rattle.handshake_entry_ask.proofs.add_row.Tie as tie
 
 returns : tie.Need-returns
-unfolding counted together
+unfolding countedToLimit together
 returns c = rw (c .before .before .before .before .before .size .given .1, c .before .before .own .given .1) (ap Bytes (c .add-bytes .ensures))
 
 returns-2 : tie.Need-returns-2
-unfolding counted together
+unfolding countedToLimit together
 returns-2 c = rw (c .before .before .before .before .size .given .1, c .before .own2 .given .1)
 
 returns-3 : tie.Need-returns-3
-unfolding counted together
+unfolding countedToLimit together
 returns-3 c = rw (c .before .before .before .size2 .given .1, c .enum-told .given .1)
 
 returns-4 : tie.Need-returns-4
-unfolding counted together
+unfolding countedToLimit together
 returns-4 c = rw (c .before .before .before .before .before .size2 .given .1, c .before .before .own3 .given .1) (ap Refused (c .first-of .ensures))
 
 pub add-row-spec : {M : Type 1} → statement M

@@ -3,7 +3,7 @@ use mathlib.Core.Path.{sym, ap, _∙_}
 use denote.Ref.{now}
 use borrow.Author.Needs.{needs}
 use borrow.Author.Tests.{not-true, not-false}
-use Rattle.handshake.specs.Tables.{lent}
+use Rattle.handshake.specs.Tables.{tables}
 use Rattle.handshake_entry_rows.specs.ValueLaws.{own-whole}
 use Rattle.handshake_entry_ask.specs.Asked.{bodySize}
 use Rattle.handshake_entry_ask.specs.AskedLaws.{entries-broken, entries-whole}
@@ -13,13 +13,13 @@ use Rattle.handshake_entry_ask.proofs.ask_entries.Tie as tie
 returns : tie.Need-returns
 returns c =
     let a = c .before .before .before .before .before .args in
-    let l = lent (now (a .entries)) (now (a .features)) (now (a .buffer)) in
+    let l = tables (now (a .entries)) (now (a .features)) (now (a .buffer)) in
     entries-broken l (a .before) (sym (own-whole l) ∙ sym (c .before .tables-whole .ensures) ∙ not-true _ (c .if1 .taken))
 
 returns-2 : tie.Need-returns-2
 returns-2 c =
     let a = c .before .before .before .before .before .before .before .args in
-    let l = lent (now (a .entries)) (now (a .features)) (now (a .buffer)) in
+    let l = tables (now (a .entries)) (now (a .features)) (now (a .buffer)) in
     c .ask-body .ensures ∙ ap (bodySize (a .before)) (c .before .ask-rows .ensures)
     ∙ entries-whole l (a .before) (sym (own-whole l) ∙ sym (c .before .before .before .tables-whole .ensures) ∙ not-false _ (c .before .before .if1 .left))
 

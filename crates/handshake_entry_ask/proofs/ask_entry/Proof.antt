@@ -4,7 +4,7 @@ use mathlib.Core.Path.{sym, ap, _∙_}
 use denote.Ref.{now}
 use borrow.Author.Needs.{needs}
 use borrow.Author.Tests.{not-true, not-false}
-use Rattle.handshake.specs.Tables.{lent}
+use Rattle.handshake.specs.Tables.{tables}
 use Rattle.handshake_entry_rows.specs.ValueLaws.{row-there, own-whole}
 use Rattle.handshake_entry_ask.specs.Asked.{rowSize}
 use Rattle.handshake_entry_ask.specs.AskedLaws.{entry-broken, entry-outside, entry-row}
@@ -14,19 +14,19 @@ use Rattle.handshake_entry_ask.proofs.ask_entry.Tie as tie
 returns : tie.Need-returns
 returns c =
     let a = c .before .before .before .before .before .args in
-    let l = lent (now (a .entries)) (now (a .features)) (now (a .buffer)) in
+    let l = tables (now (a .entries)) (now (a .features)) (now (a .buffer)) in
     entry-broken l (a .k) (sym (own-whole l) ∙ sym (c .before .tables-whole .ensures) ∙ not-true _ (c .if1 .taken))
 
 returns-2 : tie.Need-returns-2
 returns-2 c =
     let a = c .before .before .before .before .before .before .args in
-    let l = lent (now (a .entries)) (now (a .features)) (now (a .buffer)) in
+    let l = tables (now (a .entries)) (now (a .features)) (now (a .buffer)) in
     entry-outside l (a .k) (sym (own-whole l) ∙ sym (c .before .before .tables-whole .ensures) ∙ not-false _ (c .before .if1 .left)) (omega arith)
 
 returns-3 : tie.Need-returns-3
 returns-3 c =
     let a = c .before .before .before .before .before .before .before .before .args in
-    let l = lent (now (a .entries)) (now (a .features)) (now (a .buffer)) in
+    let l = tables (now (a .entries)) (now (a .features)) (now (a .buffer)) in
     let row = c .before .entry-at .ensures ∙ row-there (now (a .entries)) (a .k) (omega arith) in
     c .ask-row .ensures ∙ ap (rowSize (now (a .features)) (now (a .buffer))) row
     ∙ entry-row l (a .k) (sym (own-whole l) ∙ sym (c .before .before .before .before .tables-whole .ensures) ∙ not-false _ (c .before .before .before .if1 .left)) (omega arith)

@@ -6,7 +6,7 @@ use mathlib.Core.Path.{sym, _∙_}
 use denote.Ref.{now}
 use borrow.Author.Needs.{needs}
 use borrow.Author.Tests.{not-true, not-false}
-use Rattle.handshake.specs.Tables.{lent, bytesAt}
+use Rattle.handshake.specs.Tables.{tables, bytesAt}
 use Rattle.handshake.specs.TablesLaws.{parts-inside, own-range}
 use Rattle.handshake_entry_rows.specs.ValueLaws.{agent-part, name-part}
 use Rattle.handshake_entry_ask.specs.RowLaws.{fails-12, fails-13, fails-4, fails-15, short-row, last-3}
@@ -21,7 +21,7 @@ returns c =
 strings-short-requires : tie.Need-strings-short-requires
 strings-short-requires c κs =
     let a = c .before .before .before .before .args in
-    let l = lent [] (now (a .features)) (now (a .buffer)) in
+    let l = tables [] (now (a .features)) (now (a .buffer)) in
     let within = sym (c .before .row-inside .ensures) ∙ not-false _ (c .if1 .left) in
     (agent-part l (a .e) within, name-part l (a .e) within)
 
@@ -34,7 +34,7 @@ returns-2 c =
 strings-utf8-requires : tie.Need-strings-utf8-requires
 strings-utf8-requires c κs =
     let a = c .before .before .before .before .before .before .args in
-    let l = lent [] (now (a .features)) (now (a .buffer)) in
+    let l = tables [] (now (a .features)) (now (a .buffer)) in
     let within = sym (c .before .before .before .row-inside .ensures) ∙ not-false _ (c .before .before .if1 .left) in
     (agent-part l (a .e) within, name-part l (a .e) within)
 
@@ -56,7 +56,7 @@ returns-4 c =
 features-size-requires : tie.Need-features-size-requires
 features-size-requires c κs =
     let a = c .before .before .before .before .before .before .before .before .before .before .before .before .before .args in
-    let l = lent [] (now (a .features)) (now (a .buffer)) in
+    let l = tables [] (now (a .features)) (now (a .buffer)) in
     let within = sym (c .before .before .before .before .before .before .before .before .before .before .row-inside .ensures) ∙ not-false _ (c .before .before .before .before .before .before .before .before .before .if1 .left) in
     let short = sym (c .before .before .before .before .before .before .before .before .strings-short .ensures) ∙ not-false _ (c .before .before .before .before .before .before .before .if2 .left) in
     let s = short-row (now (a .features)) (now (a .buffer)) (a .e) within short in

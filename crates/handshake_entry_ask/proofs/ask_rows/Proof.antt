@@ -5,7 +5,7 @@ use mathlib.Core.Path.{_≡_, refl, ap, _∙_}
 use denote.Ref.{now}
 use lib.ListN.{length}
 use borrow.Author.Needs.{needs}
-use Rattle.handshake.specs.Tables.{lent}
+use Rattle.handshake.specs.Tables.{tables}
 use Rattle.handshake_entry_rows.specs.ValueLaws.{row-there}
 use Rattle.handshake_entry_ask.specs.Asked.{rowSize}
 use Rattle.handshake_entry_ask.specs.AskedLaws.{SizeSoFar, size-start, size-turn, size-end}
@@ -14,7 +14,7 @@ use Rattle.handshake_entry_ask.proofs.ask_rows.Tie as tie
 
 abbrev Inv-loop : tie.InvT-loop
 Inv-loop entries features buffer n size₀ k₀ size k =
-    (n ≡ length entries / 12) × (k ≤ length entries / 12) × SizeSoFar (lent entries features buffer) k size
+    (n ≡ length entries / 12) × (k ≤ length entries / 12) × SizeSoFar (tables entries features buffer) k size
 
 abbrev μ-loop : tie.MeasureT-loop
 μ-loop entries features buffer n size₀ k₀ size k = n - k

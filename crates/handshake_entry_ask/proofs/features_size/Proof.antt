@@ -13,7 +13,7 @@ use Rattle.wire.specs.declared.Size.the-variants.{Bytes}
 use Rattle.vlq.specs.Vlq.{limit}
 use Rattle.handshake.specs.declared.FeatureRow.{FeatureRow}
 use Rattle.handshake.specs.Value.{featureBytes}
-use Rattle.handshake.specs.Tables.{rows, featureRow, bytesAt, featureOf}
+use Rattle.handshake.specs.Tables.{rows, featureRow, bytesAt, featureFromRow}
 use Rattle.handshake.specs.RowsLaws.{rows-from, bytes-next, bytes-none, Passed, passed-start, passed-next, passed-not, passed-end}
 use Rattle.handshake_entry_rows.specs.ValueLaws.{part-inside}
 use Rattle.handshake_entry_ask.specs.LengthLaws.{bodyWithin, length-feature, within-rows}
@@ -22,8 +22,8 @@ use Rattle.handshake_entry_ask.proofs.features_size.Tie as tie
 
 abbrev Inv-loop : tie.InvT-loop
 Inv-loop before features buffer first count m₀ k₀ m k =
-    (m + length (flatMap featureBytes (map (featureOf buffer) (rows (λ i. featureRow features (first + i)) k (count - k))))
-    ≡ before + length (flatMap featureBytes (map (featureOf buffer) (rows (featureRow features) first count))))
+    (m + length (flatMap featureBytes (map (featureFromRow buffer) (rows (λ i. featureRow features (first + i)) k (count - k))))
+    ≡ before + length (flatMap featureBytes (map (featureFromRow buffer) (rows (featureRow features) first count))))
     × (m ≤ 1000 + k * (limit + 11)) × Passed (bodyWithin buffer) (λ i. featureRow features (first + i)) count k
 
 abbrev μ-loop : tie.MeasureT-loop
@@ -44,8 +44,8 @@ unfolding sized bodyWithin
 returns c =
     let a = c .before .before .before .before .before .before .before .before .before .before .args in
     let l = c .before .before .before .before .before .loop in
-    let long = lt-leb _ _ (c .if1 .taken) in
-    let no = passed-not (l .inv .2) (c .before .before .before .before .loop-test .taken) (ap (λ s. leb (length s) limit) (sym (c .before .part-of .ensures)) ∙ long) in
+    let size = lt-leb _ _ (c .if1 .taken) in
+    let no = passed-not (l .inv .2) (c .before .before .before .before .loop-test .taken) (ap (λ s. leb (length s) limit) (sym (c .before .part-of .ensures)) ∙ size) in
     rw (within-rows (now (a .features)) (now (a .buffer)) (a .e), sym no)
 
 add-m : tie.Need-add-m Inv-loop μ-loop
@@ -57,7 +57,7 @@ loop-again c =
     let a = c .before .before .before .before .before .before .before .before .before .before .before .args in
     let l = c .before .before .before .before .before .before .loop in
     let s = now (a .buffer) in
-    let g = featureOf s in
+    let g = featureFromRow s in
     let f : ℕ → FeatureRow = λ i. featureRow (now (a .features)) (a .e .first + i) in
     let t = c .before .before .before .before .before .loop-test .taken in
     let body = c .before .before .part-of .ensures in
@@ -74,7 +74,7 @@ returns-2 c =
     let l = c .before .loop in
     let s = now (a .buffer) in
     let yes = passed-end (l .inv .2) (c .loop-test .left) in
-    let done = ap length (bytes-none featureBytes (featureOf s) (λ i. featureRow (now (a .features)) (a .e .first + i)) (l .k) (a .e .count) (c .loop-test .left)) in
+    let done = ap length (bytes-none featureBytes (featureFromRow s) (λ i. featureRow (now (a .features)) (a .e .first + i)) (l .k) (a .e .count) (c .loop-test .left)) in
     rw (within-rows (now (a .features)) s (a .e), sym yes) (ap Bytes (omega (arith, l .inv .0, done)))
 
 pub features-size-spec : {M : Type 1} → statement M

@@ -5,7 +5,7 @@ use mathlib.Core.Path.{_∙_}
 use denote.Ref.{now}
 use lib.ListN.{length-set}
 use Rattle.wire.specs.OutputLaws.{wrote-then, wrote-byte, wrote-length}
-use Rattle.handshake.specs.Tables.{lent, inside, entryInside}
+use Rattle.handshake.specs.Tables.{tables, inside, entryInside}
 use Rattle.handshake.specs.TablesLaws.{parts-inside, own-range}
 use Rattle.handshake_entry_ask.specs.LengthLaws.{entry-parts, length-entry}
 use Rattle.handshake_entry_rows.specs.ValueLaws.{own-short, agent-part, name-part}
@@ -15,7 +15,7 @@ use Rattle.handshake_entry_write.proofs.put_entry.Tie as tie
 put-head-requires : tie.Need-put-head-requires
 put-head-requires c κs =
     let a = c .before .before .before .before .args in
-    let l = lent [] (now (a .features)) (now (a .buffer)) in
+    let l = tables [] (now (a .features)) (now (a .buffer)) in
     let ready = c .before .before .before .before .pre .0 in
     let whole = length-entry l (a .e) in
     ((ready .numbers, own-short l (a .e) ∙ ready .short), ((agent-part l (a .e) (ready .inside), name-part l (a .e) (ready .inside)), omega (arith, whole)))
@@ -24,7 +24,7 @@ put-address-requires : tie.Need-put-address-requires
 unfolding entryInside inside
 put-address-requires c κs =
     let a = c .before .before .before .before .before .before .before .before .args in
-    let l = lent [] (now (a .features)) (now (a .buffer)) in
+    let l = tables [] (now (a .features)) (now (a .buffer)) in
     let ready = c .before .before .before .before .before .before .before .before .pre .0 in
     let whole = length-entry l (a .e) in
     let w = c .before .before .before .put-head .ensures in
@@ -33,7 +33,7 @@ put-address-requires c κs =
 cast-out : tie.Need-cast-out
 cast-out c =
     let a = c .before .before .before .before .before .before .before .before .before .before .before .before .args in
-    let l = lent [] (now (a .features)) (now (a .buffer)) in
+    let l = tables [] (now (a .features)) (now (a .buffer)) in
     let ready = c .before .before .before .before .before .before .before .before .before .before .before .before .pre .0 in
     let whole = length-entry l (a .e) in
     omega (arith, ready .few)
@@ -41,7 +41,7 @@ cast-out c =
 slice-write-out : tie.Need-slice-write-out
 slice-write-out c =
     let a = c .before .before .before .before .before .before .before .before .before .before .before .before .args in
-    let l = lent [] (now (a .features)) (now (a .buffer)) in
+    let l = tables [] (now (a .features)) (now (a .buffer)) in
     let ready = c .before .before .before .before .before .before .before .before .before .before .before .before .pre .0 in
     let whole = length-entry l (a .e) in
     let w = c .before .before .before .before .before .before .before .put-head .ensures in
@@ -51,7 +51,7 @@ slice-write-out c =
 add-put-features : tie.Need-add-put-features
 add-put-features c =
     let a = c .before .before .before .before .before .before .before .before .before .before .before .before .before .args in
-    let l = lent [] (now (a .features)) (now (a .buffer)) in
+    let l = tables [] (now (a .features)) (now (a .buffer)) in
     let ready = c .before .before .before .before .before .before .before .before .before .before .before .before .before .pre .0 in
     let whole = length-entry l (a .e) in
     let w = c .before .before .before .before .before .before .before .before .put-head .ensures in
@@ -61,7 +61,7 @@ add-put-features c =
 put-features-requires : tie.Need-put-features-requires
 put-features-requires c κs =
     let a = c .before .before .before .before .before .before .before .before .before .before .before .before .before .args in
-    let l = lent [] (now (a .features)) (now (a .buffer)) in
+    let l = tables [] (now (a .features)) (now (a .buffer)) in
     let ready = c .before .before .before .before .before .before .before .before .before .before .before .before .before .pre .0 in
     let whole = length-entry l (a .e) in
     let w = c .before .before .before .before .before .before .before .before .put-head .ensures in
@@ -74,7 +74,7 @@ same-length c = wrote-length (c .before .before .put-features .ensures) ∙ simp
 returns : tie.Need-returns
 returns c =
     let a = c .before .before .before .before .before .before .before .before .before .before .before .before .before .before .before .before .args in
-    let l = lent [] (now (a .features)) (now (a .buffer)) in
+    let l = tables [] (now (a .features)) (now (a .buffer)) in
     let ready = c .before .before .before .before .before .before .before .before .before .before .before .before .before .before .before .before .pre .0 in
     let whole = length-entry l (a .e) in
     rw (entry-parts l (a .e))

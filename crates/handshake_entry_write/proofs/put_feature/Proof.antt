@@ -6,7 +6,7 @@ use lib.ListN.{length-set}
 use borrow.Author.Needs.{needs}
 use Rattle.wire.specs.OutputLaws.{wrote-then, wrote-byte, wrote-length}
 use Rattle.handshake.specs.Value.{featureBytes}
-use Rattle.handshake.specs.Tables.{featureOf}
+use Rattle.handshake.specs.Tables.{featureFromRow}
 use Rattle.handshake_entry_ask.specs.LengthLaws.{length-feature}
 use Rattle.handshake_entry_write.specs.NumbersLaws.{id-byte}
 use Rattle.handshake_entry_write.proofs.put_feature.Statement.{statement}
@@ -41,7 +41,7 @@ same-length : tie.Need-same-length
 same-length c = wrote-length (c .before .before .put-part .ensures) ∙ wrote-length (c .before .before .before .before .before .before .put-vlq .ensures) ∙ simp length-set
 
 returns : tie.Need-returns
-unfolding featureBytes featureOf
+unfolding featureBytes featureFromRow
 returns c =
     let a = c .before .before .before .before .before .before .before .before .before .before .before .before .args in
     wrote-then (wrote-byte (a .out .now) (a .at) (a .f .id)) (wrote-then (rw (c .before .before .before .before .before .before .before .before .before .part-of .ensures) at (c .before .before .before .before .before .before .put-vlq .ensures)) (rw (c .before .before .before .before .before .before .before .before .before .part-of .ensures) at (c .before .before .put-part .ensures)))

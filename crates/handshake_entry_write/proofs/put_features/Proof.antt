@@ -3,7 +3,7 @@ use Prim.Native.Nat.{_+_, _-_, _^_, _<_}
 use native.Mathlib.Omega.{arith}
 use denote.Ref.{now}
 use Rattle.handshake.specs.Value.{featureBytes}
-use Rattle.handshake.specs.Tables.{featureRow, featureOf, featureNumbers}
+use Rattle.handshake.specs.Tables.{featureRow, featureFromRow, featureNumbers}
 use Rattle.handshake.specs.RowsLaws.{rows-from}
 use Rattle.handshake.specs.PuttingLaws.{Putting, putting-start, putting-passed, putting-room, putting-turn, putting-end}
 use Rattle.handshake_entry_rows.specs.ValueLaws.{part-inside}
@@ -12,7 +12,7 @@ use Rattle.handshake_entry_write.proofs.put_features.Tie as tie
 
 abbrev Inv-loop : tie.InvT-loop
 Inv-loop out₀ at features buffer first count o₀ k₀ out o k =
-    (count < 2 ^ 32) × Putting featureBytes (featureOf buffer) (λ i. featureRow features (first + i)) featureNumbers count out₀ at out o k
+    (count < 2 ^ 32) × Putting featureBytes (featureFromRow buffer) (λ i. featureRow features (first + i)) featureNumbers count out₀ at out o k
 
 abbrev μ-loop : tie.MeasureT-loop
 μ-loop out₀ at features buffer first count o₀ k₀ out o k = count - k
@@ -49,7 +49,7 @@ loop-again c =
     (l .inv .0, putting-turn (l .inv .1) (omega arith) (c .before .before .put-feature .ensures))
 
 same-length : tie.Need-same-length Inv-loop μ-loop
-same-length c = c .before .loop .inv .1 .writing .long
+same-length c = c .before .loop .inv .1 .writing .size
 
 returns : tie.Need-returns Inv-loop μ-loop
 returns c =

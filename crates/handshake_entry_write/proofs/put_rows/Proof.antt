@@ -6,7 +6,7 @@ use denote.Ref.{now}
 use lib.ListN.{length}
 use borrow.Author.Needs.{needs}
 use Rattle.handshake.specs.Value.{entryBytes}
-use Rattle.handshake.specs.Tables.{lent, entryRow, entryOf, entriesOf, entryInside}
+use Rattle.handshake.specs.Tables.{tables, entryRow, entryFromRow, entriesOf, entryInside}
 use Rattle.handshake.specs.PuttingLaws.{Putting, putting-start, putting-room, putting-turn, putting-end}
 use Rattle.handshake_entry_rows.specs.ValueLaws.{row-there, own-entry}
 use Rattle.handshake_entry_write.specs.RowsLaws.{each-row-ready}
@@ -15,7 +15,7 @@ use Rattle.handshake_entry_write.proofs.put_rows.Tie as tie
 
 abbrev Inv-loop : tie.InvT-loop
 Inv-loop out₀ at entries features buffer n o₀ k₀ out o k =
-    Putting entryBytes (entryOf (lent entries features buffer)) (entryRow entries) (entryInside (lent entries features buffer)) (length entries / 12) out₀ at out o k
+    Putting entryBytes (entryFromRow (tables entries features buffer)) (entryRow entries) (entryInside (tables entries features buffer)) (length entries / 12) out₀ at out o k
 
 abbrev μ-loop : tie.MeasureT-loop
 μ-loop out₀ at entries features buffer n o₀ k₀ out o k = length entries / 12 - k
@@ -28,7 +28,7 @@ put-entry-requires : tie.Need-put-entry-requires Inv-loop μ-loop
 put-entry-requires c κs =
     let s = c .before .before .before .before .before .before .before .before in
     let a = s .args in
-    let l = lent (now (a .entries)) (now (a .features)) (now (a .buffer)) in
+    let l = tables (now (a .entries)) (now (a .features)) (now (a .buffer)) in
     let k = c .before .before .before .loop .k in
     let row = c .before .entry-at .ensures ∙ row-there (l .entries) k (omega arith) in
     rw row
@@ -41,13 +41,13 @@ loop-again : tie.Need-loop-again Inv-loop μ-loop
 loop-again c =
     let s = c .before .before .before .before .before .before .before .before .before .before .before in
     let a = s .args in
-    let l = lent (now (a .entries)) (now (a .features)) (now (a .buffer)) in
+    let l = tables (now (a .entries)) (now (a .features)) (now (a .buffer)) in
     let i = c .before .before .before .before .before .before .loop in
     let row = c .before .before .before .before .entry-at .ensures ∙ row-there (l .entries) (i .k) (omega arith) in
     putting-turn (i .inv) (omega arith) (rw (row, own-entry l (entryRow (l .entries) (i .k))) at (c .before .before .put-entry .ensures))
 
 same-length : tie.Need-same-length Inv-loop μ-loop
-same-length c = c .before .loop .inv .writing .long
+same-length c = c .before .loop .inv .writing .size
 
 returns : tie.Need-returns Inv-loop μ-loop
 unfolding entriesOf

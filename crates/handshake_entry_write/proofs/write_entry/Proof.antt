@@ -3,7 +3,7 @@ use mathlib.Core.Path.{_∙_}
 use denote.Ref.{now}
 use borrow.Author.Needs.{needs}
 use Rattle.wire.specs.OutputLaws.{wrote-length}
-use Rattle.handshake.specs.Tables.{lent, entryRow}
+use Rattle.handshake.specs.Tables.{tables, entryRow}
 use Rattle.handshake_entry_rows.specs.ValueLaws.{row-there, own-entry}
 use Rattle.handshake_entry_write.specs.EntryLaws.{entry-in-table, entry-accepted, entry-stored, entry-kept}
 use Rattle.handshake_entry_write.proofs.write_entry.Statement.{statement}
@@ -13,7 +13,7 @@ put-entry-requires : tie.Need-put-entry-requires
 put-entry-requires c κs =
     let d = c .before .before .before .before in
     let a = d .before .before .before .before .before .before .args in
-    let l = lent (now (a .entries)) (now (a .features)) (now (a .buffer)) in
+    let l = tables (now (a .entries)) (now (a .features)) (now (a .buffer)) in
     let yes = entry-accepted l (a .k) (now (a .out)) (a .at) (d .before .ask-entry .ensures) (d .ask-output .ensures) (c .before .before .enum-told .given .1) in
     let lt = entry-in-table l (a .k) (now (a .out)) (a .at) (d .before .ask-entry .ensures) (d .ask-output .ensures) (c .before .before .enum-told .given .1) in
     let row = c .entry-at .ensures ∙ row-there (l .entries) (a .k) lt in
@@ -26,7 +26,7 @@ returns : tie.Need-returns
 returns c =
     let d = c .before .before .before .before .before .before .before in
     let a = d .before .before .before .before .before .before .args in
-    let l = lent (now (a .entries)) (now (a .features)) (now (a .buffer)) in
+    let l = tables (now (a .entries)) (now (a .features)) (now (a .buffer)) in
     let lt = entry-in-table l (a .k) (now (a .out)) (a .at) (d .before .ask-entry .ensures) (d .ask-output .ensures) (c .before .before .before .before .before .enum-told .given .1) in
     let row = c .before .before .before .entry-at .ensures ∙ row-there (l .entries) (a .k) lt in
     entry-stored l (a .k) (now (a .out)) (a .at) (d .before .ask-entry .ensures) (d .ask-output .ensures) (c .before .before .before .before .before .enum-told .given .1)
@@ -36,7 +36,7 @@ returns-2 : tie.Need-returns-2
 returns-2 c =
     let d = c .before .before in
     let a = d .before .before .before .before .before .before .args in
-    let l = lent (now (a .entries)) (now (a .features)) (now (a .buffer)) in
+    let l = tables (now (a .entries)) (now (a .features)) (now (a .buffer)) in
     entry-kept l (a .k) (now (a .out)) (a .at) (d .before .ask-entry .ensures) (d .ask-output .ensures) (c .enum-told2 .given .1)
 
 pub write-entry-spec : {M : Type 1} → statement M

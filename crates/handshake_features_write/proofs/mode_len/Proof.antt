@@ -21,9 +21,9 @@ returns : tie.Need-returns
 unfolding nipopow
 returns c =
     let a = c .before .before .before .before .args in
-    let e = c .before .before .before .zigzag-encode .ensures ∙ ap zigzagEncode (toZ-ofZ (c .before .before .before .before .fits .blocks)) in
+    let e = c .before .before .before .zigzag-encode .ensures ∙ ap zigzagEncode (toZ-ofZ (c .before .before .before .before .fits .blocks-to-keep)) in
     let n = ap (λ m. length (nipopow m)) (c .enum-told .given .1) in (
-      λ s b. omega (arith, n, c .before .before .vlq-len .ensures, length-mode (a .mode) s b (a .blocks) e (omega arith)),
+      λ s b. omega (arith, n, c .before .before .vlq-len .ensures, length-mode (a .mode) s b (a .blocks-to-keep) e (omega arith)),
       omega (arith, c .before .before .vlq-len .ensures, vlq-ten (c .before .before .before .zigzag-encode .result) (omega arith)),
     )
 
@@ -31,9 +31,9 @@ returns-2 : tie.Need-returns-2
 unfolding nipopow
 returns-2 c =
     let a = c .before .before .before .before .args in
-    let e = c .before .before .before .zigzag-encode .ensures ∙ ap zigzagEncode (toZ-ofZ (c .before .before .before .before .fits .blocks)) in
+    let e = c .before .before .before .zigzag-encode .ensures ∙ ap zigzagEncode (toZ-ofZ (c .before .before .before .before .fits .blocks-to-keep)) in
     let n = ap (λ m. length (nipopow m)) (c .enum-told2 .given .1) in (
-      λ s b. omega (arith, n, c .before .before .vlq-len .ensures, length-mode (a .mode) s b (a .blocks) e (omega arith)),
+      λ s b. omega (arith, n, c .before .before .vlq-len .ensures, length-mode (a .mode) s b (a .blocks-to-keep) e (omega arith)),
       omega (arith, c .before .before .vlq-len .ensures, vlq-ten (c .before .before .before .zigzag-encode .result) (omega arith)),
     )
 

@@ -18,23 +18,23 @@ use Rattle.handshake_features_write.proofs.write_mode.Tie as tie
 put-mode-requires : tie.Need-put-mode-requires
 put-mode-requires c κs =
     let a = c .before .before .before .before .before .before .args in
-    let bytes : ℤ → List ℕ = λ x. featureBytes (modeFeatureOf (a .mode) (a .statetype) (a .verifying) x) in
-    let size = ap (λ (x : ℤ). length (bytes x)) (toZ-ofZ (c .before .before .before .before .before .before .fits .blocks)) in
-    omega (arith, size, accepted [] [] (now (a .out)) (a .at) (bytes (a .blocks)) (rw (c .before .before .before .before .mode-len .ensures .0 (a .statetype) (a .verifying) ∙ size) at (c .before .before .before .ask-room .ensures)) (c .before .enum-told .given .1) .room)
+    let bytes : ℤ → List ℕ = λ x. featureBytes (modeFeatureOf (a .mode) (a .state-type-id) (a .verifying) x) in
+    let size = ap (λ (x : ℤ). length (bytes x)) (toZ-ofZ (c .before .before .before .before .before .before .fits .blocks-to-keep)) in
+    omega (arith, size, accepted [] [] (now (a .out)) (a .at) (bytes (a .blocks-to-keep)) (rw (c .before .before .before .before .mode-len .ensures .0 (a .state-type-id) (a .verifying) ∙ size) at (c .before .before .before .ask-room .ensures)) (c .before .enum-told .given .1) .room)
 
 returns : tie.Need-returns
 returns c =
     let a = c .before .before .before .before .before .before .before .before .before .args in
-    let bytes : ℤ → List ℕ = λ x. featureBytes (modeFeatureOf (a .mode) (a .statetype) (a .verifying) x) in
-    let same = toZ-ofZ (c .before .before .before .before .before .before .before .before .before .fits .blocks) in
+    let bytes : ℤ → List ℕ = λ x. featureBytes (modeFeatureOf (a .mode) (a .state-type-id) (a .verifying) x) in
+    let same = toZ-ofZ (c .before .before .before .before .before .before .before .before .before .fits .blocks-to-keep) in
     let size = ap (λ (x : ℤ). length (bytes x)) same in
-    stored [] [] _ _ _ (rw (c .before .before .before .before .before .before .before .mode-len .ensures .0 (a .statetype) (a .verifying) ∙ size) at (c .before .before .before .before .before .before .ask-room .ensures)) (c .before .before .before .before .enum-told .given .1) (record { end = refl; bytes = c .before .before .put-mode .ensures ∙ ap (λ (x : ℤ). put (now (a .out)) (a .at) (bytes x)) same })
+    stored [] [] _ _ _ (rw (c .before .before .before .before .before .before .before .mode-len .ensures .0 (a .state-type-id) (a .verifying) ∙ size) at (c .before .before .before .before .before .before .ask-room .ensures)) (c .before .before .before .before .enum-told .given .1) (record { end = refl; bytes = c .before .before .put-mode .ensures ∙ ap (λ (x : ℤ). put (now (a .out)) (a .at) (bytes x)) same })
 
 returns-2 : tie.Need-returns-2
 returns-2 c =
     let a = c .before .before .before .before .before .args in
-    let size = ap (λ (x : ℤ). length (featureBytes (modeFeatureOf (a .mode) (a .statetype) (a .verifying) x))) (toZ-ofZ (c .before .before .before .before .before .fits .blocks)) in
-    kept [] [] _ _ _ (rw (c .before .before .before .mode-len .ensures .0 (a .statetype) (a .verifying) ∙ size) at (c .before .before .ask-room .ensures)) (c .enum-told2 .given .1)
+    let size = ap (λ (x : ℤ). length (featureBytes (modeFeatureOf (a .mode) (a .state-type-id) (a .verifying) x))) (toZ-ofZ (c .before .before .before .before .before .fits .blocks-to-keep)) in
+    kept [] [] _ _ _ (rw (c .before .before .before .mode-len .ensures .0 (a .state-type-id) (a .verifying) ∙ size) at (c .before .before .ask-room .ensures)) (c .enum-told2 .given .1)
 
 pub write-mode-spec : {M : Type 1} → statement M
 write-mode-spec =

@@ -2,7 +2,7 @@
 use mathlib.Core.Path.{sym, ap, _∙_}
 use Rattle.wire.specs.ReaderLaws.{map-got, map-refused, map-refusal}
 use denote.Ref.{now}
-use Rattle.handshake_read.specs.Answers.{peerSpecOf, entryAnswer, ended, endAnswer}
+use Rattle.handshake_read.specs.Answers.{peerSpecOf, entryAnswer, featuresEnded, featuresEndAnswer}
 use Rattle.handshake_read.specs.Parts.{featureAt}
 use Rattle.handshake_read.proofs.IndexLaws.{index-outside, index-inside, index-refused}
 use borrow.Author.Needs.{needs}
@@ -18,14 +18,14 @@ returns c =
 returns-2 : tie.Need-returns-2
 returns-2 c =
     let e = map-got peerSpecOf (sym (c .before .before .before .before .before .before .before .before .before .before .before .parse-peer-entry .ensures) ∙ ap entryAnswer (c .before .before .before .before .before .before .before .before .before .peer .given .1)) in
-    let d = map-got ended (sym (c .before .before .before .before .skip-features .ensures) ∙ ap endAnswer (c .before .before .d .given .1)) in
+    let d = map-got featuresEnded (sym (c .before .before .before .before .skip-features .ensures) ∙ ap featuresEndAnswer (c .before .before .d .given .1)) in
     let a = c .before .before .before .before .before .before .before .before .before .before .before .before .before .args in
     rw (index-inside (a .index) (now (a .s)) (a .c .at) (e .1) (e .2) (c .before .before .before .before .before .if1 .left) (d .1)) (c .read-feature .ensures)
 
 returns-3 : tie.Need-returns-3
 returns-3 c =
     let e = map-got peerSpecOf (sym (c .before .before .before .before .before .before .before .before .before .before .parse-peer-entry .ensures) ∙ ap entryAnswer (c .before .before .before .before .before .before .before .before .peer .given .1)) in
-    let d = map-refused ended (sym (c .before .before .before .skip-features .ensures) ∙ ap endAnswer (c .before .m .given .1)) in
+    let d = map-refused featuresEnded (sym (c .before .before .before .skip-features .ensures) ∙ ap featuresEndAnswer (c .before .m .given .1)) in
     let a = c .before .before .before .before .before .before .before .before .before .before .before .before .args in
     rw (index-refused (a .index) (now (a .s)) (a .c .at) (e .1) (e .2) (c .before .before .before .before .if1 .left) d, map-refusal)
 

@@ -4,7 +4,7 @@ use Rattle.wire.specs.ReaderLaws.{map-got, map-refused, map-value, map-refusal}
 use Rattle.wire.specs.ListOfLaws.{listed}
 use Rattle.vlq.specs.Answers.{byteAnswer}
 use Rattle.handshake_read.specs.Parts.{features}
-use Rattle.handshake_read.specs.Answers.{ended, endAnswer}
+use Rattle.handshake_read.specs.Answers.{featuresEnded, featuresEndAnswer}
 use borrow.Author.Needs.{needs}
 use Rattle.handshake_read.proofs.read_features.Statement.{statement}
 use Rattle.handshake_read.proofs.read_features.Tie as tie
@@ -13,14 +13,14 @@ returns : tie.Need-returns
 unfolding features
 returns c =
     let e1 = sym (c .before .before .before .before .before .before .before .read-byte .ensures) ∙ ap byteAnswer (c .before .before .before .before .before .count .given .1) in
-    let e2 = map-got ended (sym (c .before .before .before .skip-features .ensures) ∙ ap endAnswer (c .before .e .given .1)) in
+    let e2 = map-got featuresEnded (sym (c .before .before .before .skip-features .ensures) ∙ ap featuresEndAnswer (c .before .e .given .1)) in
     rw (e1, e2 .1, map-value, listed _ _ _ _ (e2 .1) .0)
 
 returns-2 : tie.Need-returns-2
 unfolding features
 returns-2 c =
     let e1 = sym (c .before .before .before .before .before .before .before .read-byte .ensures) ∙ ap byteAnswer (c .before .before .before .before .before .count .given .1) in
-    let e2 = map-refused ended (sym (c .before .before .before .skip-features .ensures) ∙ ap endAnswer (c .before .m .given .1)) in
+    let e2 = map-refused featuresEnded (sym (c .before .before .before .skip-features .ensures) ∙ ap featuresEndAnswer (c .before .m .given .1)) in
     rw (e1, e2, map-refusal)
 
 returns-3 : tie.Need-returns-3

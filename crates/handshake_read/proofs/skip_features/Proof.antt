@@ -6,18 +6,18 @@ use borrow.Author.Needs.{needs}
 use Rattle.wire.specs.ReaderLaws.{map-got, map-refused}
 use Rattle.wire.specs.LoopLaws.{ListSoFar, list-start, list-again, list-refused, list-end}
 use Rattle.handshake.specs.Entry.{feature}
-use Rattle.handshake_read.specs.Answers.{featureOf, featureAnswer, ended}
+use Rattle.handshake_read.specs.Answers.{featureOf, featureAnswer, featuresEnded}
 use Rattle.handshake_read.proofs.skip_features.Statement.{statement}
 use Rattle.handshake_read.proofs.skip_features.Tie as tie
 
 abbrev Inv-loop : tie.InvT-loop
-Inv-loop s n d₀ i₀ d i = ListSoFar (λ before. feature) ended s n (d₀ .at) tt (d .at) i
+Inv-loop s n d₀ i₀ d i = ListSoFar (λ before. feature) featuresEnded s n (d₀ .at) tt (d .at) i
 
 abbrev μ-loop : tie.MeasureT-loop
 μ-loop s n d₀ i₀ d i = n - i
 
 loop-holds : tie.Need-loop-holds Inv-loop μ-loop
-loop-holds c = list-start (λ before. feature) ended _ _ _
+loop-holds c = list-start (λ before. feature) featuresEnded _ _ _
 
 add-i : tie.Need-add-i Inv-loop μ-loop
 add-i c = omega arith

@@ -22,7 +22,7 @@ returns-2 c =
     let g = c .before .before .before .before .before .f .given .0 .0 in
     let f = found-at (now (a .s)) 3 _ _ (sym (ap found (c .before .before .before .before .before .f .given .1)) ∙ c .before .before .before .before .before .before .before .find-feature .ensures) in
     magic-asked (a .network) (now (a .s)) g f (c .before .before .if1 .left)
-    (c .stands-at .ensures ∙ ap (sameBytes (take 4 (drop (g .body .start) (now (a .s))))) (c .before .magic .ensures))
+    (c .matches-at .ensures ∙ ap (sameBytes (take 4 (drop (g .body .start) (now (a .s))))) (c .before .magic .ensures))
 
 returns-3 : tie.Need-returns-3
 returns-3 c =

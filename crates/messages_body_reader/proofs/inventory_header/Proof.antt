@@ -52,16 +52,16 @@ use Rattle.vlq.proofs.ByteRead as S₁
 use Rattle.vlq.proofs.ByteRead.Laws as S₁′
 use Rattle.vlq.proofs.VlqRead as S₂
 use Rattle.vlq.proofs.VlqRead.Laws as S₂′
-use Rattle.messages.specs.Message.{header}
+use Rattle.messages.specs.Message.{inventoryHeader}
 use Rattle.messages_body_reader.specs.Reading.{readBy, movedBy}
-use Rattle.messages_body_reader.specs.Header.{headerOf, headerAnswer}
+use Rattle.messages_body_reader.specs.Header.{headerOf, inventoryHeaderAnswer}
 use Rattle.messages_body_reader.specs.HeaderLaws.{header-reads}
 use Rattle.messages_body_reader.specs.declared.BodyReader.{BodyReader}
-use Rattle.messages_body_reader.specs.declared.HeaderRead.{HeaderRead}
+use Rattle.messages_body_reader.specs.declared.InventoryHeaderRead.{InventoryHeaderRead}
 use Rattle.messages_body_reader.proofs.BodyReader as T
 use Rattle.messages_body_reader.proofs.BodyReader.Laws as T′
-use Rattle.messages_body_reader.proofs.HeaderRead as S
-use Rattle.messages_body_reader.proofs.HeaderRead.Laws as S′
+use Rattle.messages_body_reader.proofs.InventoryHeaderRead as S
+use Rattle.messages_body_reader.proofs.InventoryHeaderRead.Laws as S′
 use Rattle.messages_body_reader.proofs.ReadCall.{Read, R, to, Kept, Back, lends, back}
 use Rattle.messages_body_reader.proofs.BodyReader.new as new
 use Rattle.messages_body_reader.proofs.BodyReader.new.Symbol as new-def
@@ -173,17 +173,17 @@ module _ {M : Type 1} (𝓤 : URA M) (H : Heap 𝓤) (A : Atoms 𝓤) (W : Given
       qed W (‵ ftrue ∷ ‵ ftrue ∷ []) ∵ owned ! S₂.the-row (Is S₂.the-row) (EL.makes S₂.the-type S₂′.the-plain 𝓤 H A) r₂ _ is₂ $ fjoin ! $
       owned ! S₁.the-row (Is S₁.the-row) (EL.makes S₁.the-type S₁′.the-plain 𝓤 H A) r₁ _ is₁ $ fjoin ! $ move ! (1 ∷ 0 ∷ []) $ join ! $ frame ! $ done !
 
-  abbrev Joined : ByteRead → VlqRead → HeaderRead → Type 0
-  Joined r₁ r₂ t = headerAnswer t ≡ headerOf (byteAnswer r₁) (vlqAnswer r₂)
+  abbrev Joined : ByteRead → VlqRead → InventoryHeaderRead → Type 0
+  Joined r₁ r₂ t = inventoryHeaderAnswer t ≡ headerOf (byteAnswer r₁) (vlqAnswer r₂)
 
-  joined : (r₁ : ByteRead) (r₂ : VlqRead) (t : HeaderRead) → ent 𝓤 (ensured 𝓤 H A header-of.ended (header-of.clauses 𝓤 H A mem run) tt (r₁, (r₂, tt)) tt t) (fact 𝓤 (Joined r₁ r₂ t))
+  joined : (r₁ : ByteRead) (r₂ : VlqRead) (t : InventoryHeaderRead) → ent 𝓤 (ensured 𝓤 H A header-of.ended (header-of.clauses 𝓤 H A mem run) tt (r₁, (r₂, tt)) tt t) (fact 𝓤 (Joined r₁ r₂ t))
   joined r₁ r₂ t = exE 𝓤 _ (λ ws. snd∗ 𝓤 (sem 𝓤 H A (lasts header-of.ended tt (r₁, (r₂, tt)) ws)) (fact 𝓤 (Joined r₁ r₂ t)))
 
   -- what the four say together
-  read : (r : BodyReader) (r₁ : ByteRead) (r₂ : VlqRead) (t : HeaderRead) → Made r → byteAnswer r₁ ≡ readBy byte r → vlqAnswer r₂ ≡ readBy vlqLength (movedBy byte r) → Joined r₁ r₂ t → headerAnswer t ≡ header (now s) 0
-  read r r₁ r₂ t e e₁ e₂ e₃ = e₃ ∙ ((λ i. headerOf (e₁ i) (e₂ i)) ∙ (header-reads r ∙ ap (λ (h : BodyReader). header (now (h .body)) (h .at .0)) e))
+  read : (r : BodyReader) (r₁ : ByteRead) (r₂ : VlqRead) (t : InventoryHeaderRead) → Made r → byteAnswer r₁ ≡ readBy byte r → vlqAnswer r₂ ≡ readBy vlqLength (movedBy byte r) → Joined r₁ r₂ t → inventoryHeaderAnswer t ≡ inventoryHeader (now s) 0
+  read r r₁ r₂ t e e₁ e₂ e₃ = e₃ ∙ ((λ i. headerOf (e₁ i) (e₂ i)) ∙ (header-reads r ∙ ap (λ (h : BodyReader). inventoryHeader (now (h .body)) (h .at .0)) e))
 
-  exits : (t : HeaderRead) (u : Val) → Is S.the-row t (u ∷ []) → headerAnswer t ≡ header (now s) 0 → ent 𝓤 (⋆ 𝓤 H A (‵ (flft κ q) ∷ ‵ Own ∷ [])) (Post u)
+  exits : (t : InventoryHeaderRead) (u : Val) → Is S.the-row t (u ∷ []) → inventoryHeaderAnswer t ≡ inventoryHeader (now s) 0 → ent 𝓤 (⋆ 𝓤 H A (‵ (flft κ q) ∷ ‵ Own ∷ [])) (Post u)
   exits t u is e =
       qed W (‵ (flft κ q) ∷ ‵ Own ∷ []) ∵
       suffices ! _ (ends-at 𝓤 H A inventory.ended stayed (inventory.clauses 𝓤 H A mem run) W (((κ, tt), (q, tt), tt, (s, tt), (v ∷ [], tt)), tt) u t (tt, tt) (tt, tt)) $ says ! e $
@@ -228,7 +228,7 @@ module _ {M : Type 1} (𝓤 : URA M) (H : Heap 𝓤) (A : Atoms 𝓤) (W : Given
         -- the two answers are put together
         nothing ! $ nothing ! $ use2 W (raw (HeaderOf 𝓤 H A mem run .pre (to-header-of r₁ u₁ r₂ u₂))) (goes-header-of r₁ u₁ r₂ u₂ is₁ is₂) $
         calls-at ! fm (HeaderOf 𝓤 H A mem run) known-header-of (to-header-of r₁ u₁ r₂ u₂) (and-then ! (load ! (from ! (stop !)) (look ! 15 refl)) (and-then ! (load ! (from ! (stop !)) (look ! 13 refl)) (no-more !))) (λ u₃.
-        use1 W (later (some (λ (t : HeaderRead). (‵ ftrue ⊛ ‵ (S.the-row .own t (u₃ ∷ []))) ⊛ raw (ensured 𝓤 H A header-of.ended (header-of.clauses 𝓤 H A mem run) tt (r₁, (r₂, tt)) tt t)))) (id⊢ 𝓤 _) $ await ! tt $ pick ! (λ t.
+        use1 W (later (some (λ (t : InventoryHeaderRead). (‵ ftrue ⊛ ‵ (S.the-row .own t (u₃ ∷ []))) ⊛ raw (ensured 𝓤 H A header-of.ended (header-of.clauses 𝓤 H A mem run) tt (r₁, (r₂, tt)) tt t)))) (id⊢ 𝓤 _) $ await ! tt $ pick ! (λ t.
         split ! $ move ! (1 ∷ []) $ use1 W (raw (fact 𝓤 (Joined r₁ r₂ t))) (joined r₁ r₂ t) $ heard ! (Joined r₁ r₂ t) (λ e₃. split ! $ drop ! $
         facts ! S.the-row (Is S.the-row) (shows 𝓤 H A S.the-row) t (u₃ ∷ []) (λ is₃.
         land ! (from ! (stop !)) (init ! 19 refl (EL.lawful S.the-type S′.the-laws 𝓤 H A W tt .typed t _ is₃ .0)) $ fsplit ! $

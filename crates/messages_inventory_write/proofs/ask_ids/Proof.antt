@@ -36,8 +36,8 @@ returns-4 c =
     let a = c .before .before .before .before .before .before .before .before .args in
     let place = le-leb _ _ (c .before .before .before .before .before .if1 .left) in
     let inside = sym (c .before .before .before .before .ids-inside .ensures) ∙ not-false _ (c .before .before .before .if2 .left) in
-    let long = c .before .ids-len .ensures ∙ sym (length-idsBytes (a .kind) (now (a .ids)) (now (a .buffer)) inside) in
-    rw (place, inside, le-leb (length (now (a .ids))) 400 (omega arith)) (rw (long, place) at (c .ask-frame .ensures))
+    let size = c .before .ids-len .ensures ∙ sym (length-idsBytes (a .modifier-type) (now (a .ids)) (now (a .buffer)) inside) in
+    rw (place, inside, le-leb (length (now (a .ids))) 400 (omega arith)) (rw (size, place) at (c .ask-frame .ensures))
 
 pub ask-ids-spec : {M : Type 1} → statement M
 ask-ids-spec =

@@ -16,8 +16,8 @@ put-body-requires : tie.Need-put-body-requires
 put-body-requires c κs =
     let s = c .before .before .before .before in
     let a = s .args in
-    let n = length (idsBytes (a .kind) (idsOf (now (a .ids)) (now (a .buffer)))) in
-    (s .pre .0, omega (arith, s .pre .1 .1, frameLength-body n (omega (arith, length-parts (a .kind) (now (a .ids)) (now (a .buffer))))))
+    let n = length (idsBytes (a .modifier-type) (idsOf (now (a .ids)) (now (a .buffer)))) in
+    (s .pre .0, omega (arith, s .pre .1 .1, frameLength-body n (omega (arith, length-parts (a .modifier-type) (now (a .ids)) (now (a .buffer))))))
 
 sub-close-frame : tie.Need-sub-close-frame
 sub-close-frame c = omega (arith, c .before .before .before .put-body .ensures .end)
@@ -28,7 +28,7 @@ returns c =
     let s = b .before .before .before .before .before in
     let a = s .args in
     let w = b .put-body .ensures in
-    let body = idsBytes (a .kind) (idsOf (now (a .ids)) (now (a .buffer))) in
+    let body = idsBytes (a .modifier-type) (idsOf (now (a .ids)) (now (a .buffer))) in
     let z : b .put-body .result - (a .at + 13) ≡ length body = omega (arith, w .end) in
     let f = c .before .before .close-frame .ensures in
     closed (a .network) (a .code) (now (a .out)) (a .at) body (s .pre .1 .1) w (s .pre .1 .0) (rw z at (f .0)) (rw z at (f .1))

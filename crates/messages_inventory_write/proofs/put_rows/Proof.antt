@@ -61,7 +61,7 @@ loop-again c =
     id-stored (now (a .ids)) (now (a .buffer)) (l .inv) (omega arith) (c .before .before .before .before .before .id-at .ensures) (w .0) (w .1)
 
 same-length : tie.Need-same-length Inv-loop μ-loop
-same-length c = c .before .loop .inv .writing .long
+same-length c = c .before .loop .inv .writing .size
 
 returns : tie.Need-returns Inv-loop μ-loop
 unfolding idsOf

@@ -11,7 +11,7 @@ put-ids-requires : tie.Need-put-ids-requires
 put-ids-requires c κs =
     let d = c .before .before .before in
     let a = d .before .before .before .before .args in
-    asked-ids (a .kind) (now (a .ids)) (now (a .buffer)) (length (now (a .out))) (a .at) (d .ask-ids .ensures) (c .before .enum-told .given .1)
+    asked-ids (a .modifier-type) (now (a .ids)) (now (a .buffer)) (length (now (a .out))) (a .at) (d .ask-ids .ensures) (c .before .enum-told .given .1)
 
 returns : tie.Need-returns
 returns c =

@@ -13,7 +13,7 @@ unfolding valueOf codeOf bodyBytes
 returns c =
     let w = c .before .before .write-ids .ensures in
     let a = c .before .before .before .before .before .before .before .args in
-    (w .0 ∙ said-request (a .network) (a .kind) (now (a .ids)) (now (a .buffer)) (now (a .out)) (a .at), w .1)
+    (w .0 ∙ said-request (a .network) (a .modifier-type) (now (a .ids)) (now (a .buffer)) (now (a .out)) (a .at), w .1)
 
 pub write-modifier-request-spec : {M : Type 1} → statement M
 write-modifier-request-spec = tie.close (tie.spec (λ c κs. search needs) (λ c. search needs) returns)

@@ -5,7 +5,7 @@ use mathlib.Core.Path.{sym, _∙_}
 use denote.Ref.{now}
 use lib.ListN.{length}
 use borrow.Author.Needs.{needs}
-use Rattle.handshake.specs.Tables.{lent}
+use Rattle.handshake.specs.Tables.{tables}
 use Rattle.handshake_entry_write.specs.NumbersLaws.{all-bytes}
 use Rattle.messages.specs.Value.{codeOf}
 use Rattle.messages.specs.Writes.{valueOf}
@@ -22,7 +22,7 @@ returns : tie.Need-returns
 unfolding valueOf codeOf
 returns c =
     let a = c .before .before .before .before .before .before .before .before .before .before .args in
-    let l = lent (now (a .entries)) (now (a .features)) (now (a .buffer)) in
+    let l = tables (now (a .entries)) (now (a .features)) (now (a .buffer)) in
     let start = sym (c .before .before .before .before .before .has-start .ensures) ∙ c .before .before .before .before .if1 .taken in
     let w = c .before .before .write-peers-frame .ensures in
     (w .0 ∙ rows-peers (a .network) (a .cap) l (now (a .out)) (a .at) start, (w .1, all-bytes _ (λ i. omega (arith, c .before .before .before .before .before .before .shared-slice-known3 .given i))))
@@ -30,7 +30,7 @@ returns c =
 returns-2 : tie.Need-returns-2
 returns-2 c =
     let a = c .before .before .before .before .before .before .before .before .before .before .args in
-    let l = lent (now (a .entries)) (now (a .features)) (now (a .buffer)) in
+    let l = tables (now (a .entries)) (now (a .features)) (now (a .buffer)) in
     let start = sym (c .before .before .before .before .before .has-start .ensures) ∙ c .before .before .before .before .if1 .left in
     let size = rw (c .before .before .before .vlq-len .ensures) at (c .before .before .ask-entries .ensures) in
     let says = rw (c .before .first-refusal .ensures, size) at (c .ask-output .ensures) ∙ refused-peers (a .network) (a .cap) l (now (a .out)) (a .at) start in

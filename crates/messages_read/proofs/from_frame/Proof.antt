@@ -3,7 +3,7 @@ use mathlib.Core.Path.{sym, ap, _∙_}
 use denote.Ref.{now}
 use borrow.Author.Tests.{ne-eqb}
 use Rattle.wire.specs.ReaderLaws.{map-got, map-refused, map-value}
-use Rattle.messages.specs.Message.{modifierRequest, inv, whole, message}
+use Rattle.messages.specs.Message.{modifierRequest, inv, wholeBody, message}
 use Rattle.messages_inventory_read.specs.Answers.{inventoryIn, inventoryAnswer}
 use Rattle.messages_read.specs.Answers.{peersAnswer}
 use Rattle.messages_read.proofs.AnswerLaws.{request-got, inv-got, ids-refused, response-got, response-refused}
@@ -66,11 +66,11 @@ returns-9 c =
     rw (c .before .before .before .before .match .keys5) (response-refused (a .network) (now (a .body)) e)
 
 returns-10 : tie.Need-returns-10
-unfolding message whole
+unfolding message wholeBody
 returns-10 c = rw (c .match .keys6, map-value)
 
 returns-11 : tie.Need-returns-11
-unfolding message whole
+unfolding message wholeBody
 returns-11 c =
     let a = c .before .before .args in
     let r = c .match .rest in

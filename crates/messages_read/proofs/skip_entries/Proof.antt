@@ -6,19 +6,19 @@ use borrow.Author.Needs.{needs}
 use Rattle.wire.specs.ReaderLaws.{map-got, map-refused}
 use Rattle.handshake.specs.Entry.{entry}
 use Rattle.handshake_read.specs.Answers.{peerSpecOf, entryAnswer}
-use Rattle.messages_read.specs.Answers.{ended}
+use Rattle.messages_read.specs.Answers.{entriesEnded}
 use Rattle.wire.specs.LoopLaws.{ListSoFar, list-start, list-again, list-refused, list-end}
 use Rattle.messages_read.proofs.skip_entries.Statement.{statement}
 use Rattle.messages_read.proofs.skip_entries.Tie as tie
 
 abbrev Inv-loop : tie.InvT-loop
-Inv-loop body n d₀ i₀ d i = ListSoFar (λ before. entry) ended body n (d₀ .at) tt (d .at) i
+Inv-loop body n d₀ i₀ d i = ListSoFar (λ before. entry) entriesEnded body n (d₀ .at) tt (d .at) i
 
 abbrev μ-loop : tie.MeasureT-loop
 μ-loop body n d₀ i₀ d i = n - i
 
 loop-holds : tie.Need-loop-holds Inv-loop μ-loop
-loop-holds c = list-start (λ before. entry) ended _ _ _
+loop-holds c = list-start (λ before. entry) entriesEnded _ _ _
 
 add-i : tie.Need-add-i Inv-loop μ-loop
 add-i c = omega arith

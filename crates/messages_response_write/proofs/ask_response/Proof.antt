@@ -71,7 +71,7 @@ returns-6 c =
     let a = c .before .before .before .before .before .before .before .before .before .before .before .args in
     let place = le-leb _ _ (c .before .before .before .before .before .before .before .if2 .left) in
     let parts = sym (c .before .before .before .before .before .before .payloads-inside .ensures) ∙ not-false _ (c .before .before .before .before .before .if3 .left) in
-    let long = c .before .response-len .ensures ∙ sym (length-response (a .kind) (now (a .payloads)) (now (a .buffer)) parts) in
+    let size = c .before .response-len .ensures ∙ sym (length-response (a .modifier-type) (now (a .payloads)) (now (a .buffer)) parts) in
     rw (
       eq-eqb (length (now (a .payloads)) % 3) 0 (c .before .before .before .before .before .before .before .before .if1 .left),
       place,
@@ -79,7 +79,7 @@ returns-6 c =
       within-rows (now (a .buffer)) (payloadRows (now (a .payloads))) parts,
       sym (c .before .before .before .before .payloads-within .ensures) ∙ not-false _ (c .before .before .before .if4 .left),
       le-leb (length (now (a .payloads)) / 3) 400 (omega arith),
-    ) (rw (long, place) at (c .ask-frame .ensures))
+    ) (rw (size, place) at (c .ask-frame .ensures))
 
 pub ask-response-spec : {M : Type 1} → statement M
 ask-response-spec =

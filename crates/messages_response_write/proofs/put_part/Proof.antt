@@ -17,8 +17,8 @@ returns c =
     let w = c .before .before .write-part .ensures in
     let z : a .from + a .n - a .from ≡ a .n = omega arith in
     let part = bytesAt (now (a .buffer)) (a .from) (a .n) in
-    let long = length-part (a .n) (now (a .buffer)) (a .from) (omega arith) in
-    rw long at (wrote-checked [] [] (now (a .out)) (a .at) part (rw z at (w .0)) (rw z at (w .1)) tt tt (omega (arith, long)))
+    let size = length-part (a .n) (now (a .buffer)) (a .from) (omega arith) in
+    rw size at (wrote-checked [] [] (now (a .out)) (a .at) part (rw z at (w .0)) (rw z at (w .1)) tt tt (omega (arith, size)))
 
 pub put-part-spec : {M : Type 1} → statement M
 put-part-spec =

@@ -5,13 +5,13 @@ use lib.ListN.{length}
 use borrow.Author.Needs.{needs}
 use Rattle.handshake.specs.PuttingLaws.{Putting, putting-start, putting-passed, putting-room, putting-turn, putting-end}
 use Rattle.messages.specs.Value.{payloadBytes}
-use Rattle.messages.specs.Writes.{payloadRow, payloadOf, payloadInside}
+use Rattle.messages.specs.Writes.{payloadRow, payloadFromRow, payloadInside}
 use Rattle.messages_response_write.proofs.put_rows.Statement.{statement}
 use Rattle.messages_response_write.proofs.put_rows.Tie as tie
 
 abbrev Inv-loop : tie.InvT-loop
 Inv-loop out₀ at payloads buffer n o₀ k₀ out o k =
-    Putting payloadBytes (payloadOf buffer) (payloadRow payloads) (payloadInside buffer) (length payloads / 3) out₀ at out o k
+    Putting payloadBytes (payloadFromRow buffer) (payloadRow payloads) (payloadInside buffer) (length payloads / 3) out₀ at out o k
 
 abbrev μ-loop : tie.MeasureT-loop
 μ-loop out₀ at payloads buffer n o₀ k₀ out o k = length payloads / 3 - k
@@ -36,7 +36,7 @@ loop-again c =
     putting-turn (c .before .before .before .before .before .before .loop .inv) (omega arith) w
 
 same-length : tie.Need-same-length Inv-loop μ-loop
-same-length c = c .before .loop .inv .writing .long
+same-length c = c .before .loop .inv .writing .size
 
 returns : tie.Need-returns Inv-loop μ-loop
 returns c = putting-end (c .before .loop .inv) (omega arith)

@@ -12,10 +12,10 @@ use Rattle.messages_response_write.proofs.rows_len.Statement.{statement
 use Rattle.messages_response_write.proofs.rows_len.Tie as tie
 
 abbrev Inv-loop : tie.InvT-loop
-Inv-loop payloads n long₀ k₀ long k = Adding (payloadRow payloads) (length payloads / 3) long k
+Inv-loop payloads n size₀ k₀ size k = Adding (payloadRow payloads) (length payloads / 3) size k
 
 abbrev μ-loop : tie.MeasureT-loop
-μ-loop payloads n long₀ k₀ long k = length payloads / 3 - k
+μ-loop payloads n size₀ k₀ size k = length payloads / 3 - k
 
 loop-holds : tie.Need-loop-holds Inv-loop μ-loop
 loop-holds c = adding-start _ _ (c .before .pre .0) (c .before .pre .1)
@@ -26,8 +26,8 @@ payload-at-requires c κs = omega arith
 row-len-requires : tie.Need-row-len-requires Inv-loop μ-loop
 row-len-requires c κs = ap rowWithin (c .payload-at .ensures) ∙ adding-within (c .before .before .loop .inv) (omega arith)
 
-add-long : tie.Need-add-long Inv-loop μ-loop
-add-long c =
+add-size : tie.Need-add-size Inv-loop μ-loop
+add-size c =
     let i = c .before .before .before .loop .inv in
     omega (arith, i .below, i .few, i .most, c .row-len .ensures .1)
 
@@ -50,7 +50,7 @@ rows-len-spec =
     loop-holds
     payload-at-requires
     row-len-requires
-    add-long
+    add-size
     (λ c. search needs)
     loop-less
     loop-again

@@ -15,7 +15,7 @@ put-response-requires : tie.Need-put-response-requires
 put-response-requires c κs =
     let d = c .before .before .before in
     let a = d .before .before .before .before .args in
-    asked-response (a .kind) (now (a .payloads)) (now (a .buffer)) (length (now (a .out))) (a .at) (d .ask-response .ensures) (c .before .enum-told .given .1)
+    asked-response (a .modifier-type) (now (a .payloads)) (now (a .buffer)) (length (now (a .out))) (a .at) (d .ask-response .ensures) (c .before .enum-told .given .1)
 
 returns : tie.Need-returns
 unfolding valueOf codeOf
@@ -23,13 +23,13 @@ returns c =
     let d = c .before .before .before .before in
     let f = d .before .before in
     let a = f .before .before .before .before .args in
-    (f .ask-response .ensures ∙ said-response (a .network) (a .kind) (now (a .payloads)) (now (a .buffer)) (now (a .out)) (a .at), after-put _ _ _ (d .enum-told .given .1) (c .before .before .put-response .ensures))
+    (f .ask-response .ensures ∙ said-response (a .network) (a .modifier-type) (now (a .payloads)) (now (a .buffer)) (now (a .out)) (a .at), after-put _ _ _ (d .enum-told .given .1) (c .before .before .put-response .ensures))
 
 returns-2 : tie.Need-returns-2
 returns-2 c =
     let f = c .before .before in
     let a = f .before .before .before .before .args in
-    (f .ask-response .ensures ∙ said-response (a .network) (a .kind) (now (a .payloads)) (now (a .buffer)) (now (a .out)) (a .at), after-refused _ _ (c .enum-told2 .given .1))
+    (f .ask-response .ensures ∙ said-response (a .network) (a .modifier-type) (now (a .payloads)) (now (a .buffer)) (now (a .out)) (a .at), after-refused _ _ (c .enum-told2 .given .1))
 
 pub write-modifier-response-spec : {M : Type 1} → statement M
 write-modifier-response-spec =

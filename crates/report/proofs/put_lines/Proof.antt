@@ -24,7 +24,7 @@ loop-holds c =
     laying-start (a .network) (a .cap) (now (a .s)) (now (a .out)) (a .at .0)
 
 sub-if1 : tie.Need-sub-if1 Inv-loop μ-loop
-sub-if1 c = let l = c .before .loop .inv in omega (arith, l .fits, l .writing .long)
+sub-if1 c = let l = c .before .loop .inv in omega (arith, l .fits, l .writing .size)
 
 array-share-prefix-line : tie.Need-array-share-prefix-line Inv-loop μ-loop
 array-share-prefix-line c = let n = c .before .next-line .ensures in line-room _ _ refl (n .1 .0) (n .1 .1)
@@ -35,7 +35,7 @@ slice-aggregate-write-part c = let n = c .before .before .next-line .ensures in 
 add-len : tie.Need-add-len Inv-loop μ-loop
 add-len c =
     let l = c .before .before .before .before .before .before .before .before .before .before .loop in
-    omega (arith, c .before .before .before .before .before .before .next-line .ensures .1 .1, leb-true 192 (length (l .out) - l .len) (c .before .before .before .before .before .before .before .before .if1 .taken), l .inv .fits, l .inv .writing .long)
+    omega (arith, c .before .before .before .before .before .before .next-line .ensures .1 .1, leb-true 192 (length (l .out) - l .len) (c .before .before .before .before .before .before .before .before .if1 .taken), l .inv .fits, l .inv .writing .size)
 
 loop-less : tie.Need-loop-less Inv-loop μ-loop
 loop-less c =
@@ -53,7 +53,7 @@ loop-again c =
 
 same-length : tie.Need-same-length Inv-loop μ-loop
 same-length c =
-    c .before .before .loop .inv .writing .long
+    c .before .before .loop .inv .writing .size
 
 returns : tie.Need-returns Inv-loop μ-loop
 returns c =
@@ -62,7 +62,7 @@ returns c =
 
 same-length-2 : tie.Need-same-length-2 Inv-loop μ-loop
 same-length-2 c =
-    c .before .loop .inv .writing .long
+    c .before .loop .inv .writing .size
 
 returns-2 : tie.Need-returns-2 Inv-loop μ-loop
 returns-2 c =

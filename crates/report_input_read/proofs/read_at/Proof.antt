@@ -7,15 +7,15 @@ use Rattle.report_input_read.specs.Input.{turnOf, turnAfter, Within}
 use Rattle.report_input_read.proofs.read_at.Statement.{statement}
 use Rattle.report_input_read.proofs.read_at.Tie as tie
 
-turn-within : (done n long : ℕ) → done + n ≤ long → Within (turnOf done n) done long
+turn-within : (done n size : ℕ) → done + n ≤ size → Within (turnOf done n) done size
 unfolding turnOf
-turn-within done zero long h = omega arith
-turn-within done (suc n) long h = (omega arith, omega arith)
+turn-within done zero size h = omega arith
+turn-within done (suc n) size h = (omega arith, omega arith)
 
-within : (got : ℤ) (done asked long : ℕ) → done + asked ≤ long → Within (turnAfter got done asked) done long
+within : (got : ℤ) (done asked size : ℕ) → done + asked ≤ size → Within (turnAfter got done asked) done size
 unfolding turnAfter
-within (pos k) done asked long h = turn-within done (min k asked) long (omega arith)
-within (negsuc k) done asked long h = tt
+within (pos k) done asked size h = turn-within done (min k asked) size (omega arith)
+within (negsuc k) done asked size h = tt
 
 returns : tie.Need-returns
 returns c = rw (c .after .ensures) (within _ _ _ _ (omega (arith, c .before .before .before .before .before .least .ensures)))

@@ -20,15 +20,15 @@ Inv-loop fd buf₀ done₀ buf done = (length buf ≡ length buf₀) × (done �
 abbrev μ-loop : tie.MeasureT-loop
 μ-loop fd buf₀ done₀ buf done = length buf - done
 
-goes-on : (t : Turn) (n done long : ℕ) → t ≡ On n → Within t done long → (done < n) × (n ≤ long)
-goes-on t n done long e h = rw e at h
+goes-on : (t : Turn) (n done size : ℕ) → t ≡ On n → Within t done size → (done < n) × (n ≤ size)
+goes-on t n done size e h = rw e at h
 
-stored : (i : Input) (done long : ℕ) (buf : List ℕ) → Within (Over i) done long → length buf ≡ long → Stored i buf
-stored (Bytes n) done long buf h e = (omega arith, sym (length-take-le _ _ (omega arith)))
-stored Failed done long buf h e = tt
+stored : (i : Input) (done size : ℕ) (buf : List ℕ) → Within (Over i) done size → length buf ≡ size → Stored i buf
+stored (Bytes n) done size buf h e = (omega arith, sym (length-take-le _ _ (omega arith)))
+stored Failed done size buf h e = tt
 
-over-stored : (t : Turn) (i : Input) (done long : ℕ) (buf : List ℕ) → t ≡ Over i → Within t done long → length buf ≡ long → Stored i buf
-over-stored t i done long buf e h = stored i done long buf (rw e at h)
+over-stored : (t : Turn) (i : Input) (done size : ℕ) (buf : List ℕ) → t ≡ Over i → Within t done size → length buf ≡ size → Stored i buf
+over-stored t i done size buf e h = stored i done size buf (rw e at h)
 
 loop-holds : tie.Need-loop-holds Inv-loop μ-loop
 loop-holds c = (refl, omega arith)

@@ -6,7 +6,7 @@ use Rattle.vlq_utf8.proofs.is_utf8.Statement.{statement}
 use Rattle.vlq_utf8.proofs.is_utf8.Tie as tie
 
 returns : tie.Need-returns
-returns c = sym (ascii-utf8 _ (c .before .high-of .ensures (c .if1 .taken)))
+returns c = sym (ascii-utf8 _ (c .before .non-ascii .ensures (c .if1 .taken)))
 
 pub is-utf8-spec : {M : Type 1} → statement M
 is-utf8-spec = tie.close (tie.spec (λ c κs. search needs) returns (λ c κs. search needs) (λ c. search needs))

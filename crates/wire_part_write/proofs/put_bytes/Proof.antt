@@ -50,7 +50,7 @@ loop-again c =
     (omega arith, writing-turn (getD s (l .i) 0 ∷ []) _ (next s (l .i) (omega arith)) (l .inv .1) (wrote-byte (l .out) (l .o) (getD s (l .i) 0)))
 
 same-length : tie.Need-same-length Inv-loop μ-loop
-same-length c = c .before .loop .inv .1 .long
+same-length c = c .before .loop .inv .1 .size
 
 returns : tie.Need-returns Inv-loop μ-loop
 returns c = writing-end (drop-of-length-le (c .before .before .args .s .now) {i = c .before .loop .i} (omega arith)) (c .before .loop .inv .1)

@@ -1,16 +1,16 @@
 -- `exports::bodies::haspeljo_payload_by_index` meets its contract: number and array are those of what the reader answered.
 use mathlib.Core.Path.{refl}
-use Rattle.messages_inventory_read.specs.Answers.{payloadAtAnswer}
+use Rattle.messages_inventory_read.specs.Answers.{payloadByIndexAnswer}
 use Rattle.exports.proofs.ExportLaws.{reader-got, reader-refused}
 use borrow.Author.Needs.{needs}
 use Rattle.exports.proofs.bodies.haspeljo_payload_by_index.Statement.{statement}
 use Rattle.exports.proofs.bodies.haspeljo_payload_by_index.Tie as tie
 
 returns : tie.Need-returns
-returns c = reader-got payloadAtAnswer _ _ (c .before .before .before .before .payload-by-index .ensures) (c .before .before .p .given .1) refl refl
+returns c = reader-got payloadByIndexAnswer _ _ (c .before .before .before .before .payload-by-index .ensures) (c .before .before .p .given .1) refl refl
 
 returns-2 : tie.Need-returns-2
-returns-2 c = reader-refused payloadAtAnswer _ _ (c .before .before .before .payload-by-index .ensures) (c .before .m .given .1) refl
+returns-2 c = reader-refused payloadByIndexAnswer _ _ (c .before .before .before .payload-by-index .ensures) (c .before .m .given .1) refl
 
 pub haspeljo-payload-by-index-spec : {M : Type 1} → statement M
 haspeljo-payload-by-index-spec =

@@ -22,12 +22,12 @@ returns-2 c =
     let given = c .before .before .before .before .before .before in
     let asked = c .before .before .before .before .before .before .before .before .before .before .before in
     let a = c .before .before .before .before .before .before .before .before .before .before .before .before .before .before .before .before .args in
-    let blocks : toZ w32 (ofZ w32 (a .blocks)) ≡ a .blocks = search needs in
+    let blocksToKeep : toZ w32 (ofZ w32 (a .blocks-to-keep)) ≡ a .blocks-to-keep = search needs in
     let session : toZ w64 (ofZ w64 (a .session)) ≡ a .session = search needs in
     let s =
-    made-same (a .statetype) (a .blocks) (a .timestamp) (a .session) (given .before .before .before .before .network-of .ensures)
+    made-same (a .state-type-id) (a .blocks-to-keep) (a .timestamp) (a .session) (given .before .before .before .before .network-of .ensures)
     (given .before .before .before .mode-of .ensures) (given .before .before .is-set .ensures) (given .before .new .ensures)
-    (given .address-from .ensures) blocks session in
+    (given .address-from .ensures) blocksToKeep session in
     let yes = sym (asked .before .is-address .ensures) ∙ not-false _ (asked .if1 .left) in
     let w = c .before .before .before .before .build .ensures in
     writer-leaves _ _ (build-same (a .kind) (a .high) (a .low) s yes _ _ _ _ (w .0, w .1 .0)) (c .written-result .ensures)

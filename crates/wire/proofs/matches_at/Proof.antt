@@ -1,12 +1,12 @@
--- `wire::stands_at` meets its contract. The loop's invariant: the bytes before i are the same.
+-- `wire::matches_at` meets its contract. The loop's invariant: the bytes before i are the same.
 -- The measure is what is left of the four. Assumes nothing.
 use Prim.Native.Nat.{_-_}
 use native.Mathlib.Omega.{arith}
 use denote.Ref.{now}
 use borrow.Author.Needs.{needs}
 use Rattle.wire.proofs.SameLoop.{same-short, SameSoFar, same-start, same-again, same-other, same-end}
-use Rattle.wire.proofs.stands_at.Statement.{statement}
-use Rattle.wire.proofs.stands_at.Tie as tie
+use Rattle.wire.proofs.matches_at.Statement.{statement}
+use Rattle.wire.proofs.matches_at.Tie as tie
 
 abbrev Inv-loop : tie.InvT-loop
 Inv-loop s at four i₀ i = SameSoFar s at 4 four i
@@ -51,8 +51,8 @@ loop-again c = same-again (c .before .before .before .loop .inv) (omega arith) (
 returns-4 : tie.Need-returns-4 Inv-loop μ-loop
 returns-4 c = same-end (c .before .loop .inv) (omega arith)
 
-pub stands-at-spec : {M : Type 1} → statement M
-stands-at-spec =
+pub matches-at-spec : {M : Type 1} → statement M
+matches-at-spec =
     tie.close
     (tie.spec
     Inv-loop

@@ -1,4 +1,4 @@
--- `vlq_utf8::high_of_block` meets its contract: before each turn m is 0 only where none of the i bytes so far is above 0x7F.
+-- `vlq_utf8::non_ascii_block` meets its contract: before each turn m is 0 only where none of the i bytes so far is above 0x7F.
 use Prim.Native.Nat.{_+_, _-_, _≤_}
 use native.Mathlib.Omega.{arith}
 use mathlib.Core.Path.{_≡_}
@@ -6,8 +6,8 @@ use lib.ListN.{getD}
 use Rattle.wire.specs.UpTo.{UpTo}
 use Rattle.wire.specs.UpToLaws.{upto-start, upto-end}
 use Rattle.vlq_utf8.specs.AsciiLaws.{high-next}
-use Rattle.vlq_utf8.proofs.high_of_block.Statement.{statement}
-use Rattle.vlq_utf8.proofs.high_of_block.Tie as tie
+use Rattle.vlq_utf8.proofs.non_ascii_block.Statement.{statement}
+use Rattle.vlq_utf8.proofs.non_ascii_block.Tie as tie
 
 abbrev Inv-loop : tie.InvT-loop
 Inv-loop s at n m₀ i₀ m i = (m ≤ i) × (i ≤ n) × (m ≡ 0 → UpTo (λ k. getD s k 0 ≤ 0x7f) at (at + i))
@@ -31,8 +31,8 @@ loop-again c =
 returns : tie.Need-returns Inv-loop μ-loop
 returns c = let l = c .before .loop in (omega (arith, l .inv .0, l .inv .1), λ z. upto-end _ _ _ _ (l .inv .2 z) (omega (arith, l .inv .1)))
 
-pub high-of-block-spec : {M : Type 1} → statement M
-high-of-block-spec =
+pub non-ascii-block-spec : {M : Type 1} → statement M
+non-ascii-block-spec =
     tie.close
     (tie.spec
     Inv-loop
