@@ -11,8 +11,8 @@ use Rattle.types.specs.declared.BodyPlace.{BodyPlace}
 use Rattle.types.specs.declared.StreamPlace.{StreamPlace}
 use Rattle.handshake_read.specs.declared.PeerSpec.{PeerSpec}
 use Rattle.handshake_read.specs.declared.Handshake.{Handshake}
-use Rattle.messages_inventory_read.specs.declared.Inventory.{Inventory}
-use Rattle.messages_inventory_read.specs.declared.Payload.{Payload}
+use Rattle.messages_inventory_response_read.specs.declared.Inventory.{Inventory}
+use Rattle.messages_inventory_response_read.specs.declared.Payload.{Payload}
 use Rattle.messages_read.specs.declared.Message.{Message}
 use Rattle.messages_read.specs.declared.Message.the-variants as Messages
 use Rattle.messages_read.specs.declared.Peers.{Peers}

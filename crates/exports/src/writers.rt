@@ -114,7 +114,7 @@ pub extern "C" fn haspeljo_write_get_peers(
     ensures { λ n. ⌜ WriterLeaves (messageWriter (networkOf mainnet) 0 writeGetPeers) at n
         (now (r .entry)) (now (r .exit)) (now (out .entry)) (now (out .exit)) ⌝ }
 {
-    let w = messages_write::write_get_peers(out, at, crate::network_of(mainnet));
+    let w = messages_opaque_write::write_get_peers(out, at, crate::network_of(mainnet));
     written_result(w, r)
 }
 
@@ -232,7 +232,7 @@ pub extern "C" fn haspeljo_write_sync_info(
     ensures { λ n. ⌜ WriterLeaves (messageWriter (networkOf mainnet) 0 (writeSyncInfo (now (body .entry)))) at n
         (now (r .entry)) (now (r .exit)) (now (out .entry)) (now (out .exit)) ⌝ }
 {
-    let w = messages_write::write_sync_info(out, at, crate::network_of(mainnet), body);
+    let w = messages_opaque_write::write_sync_info(out, at, crate::network_of(mainnet), body);
     written_result(w, r)
 }
 
@@ -249,7 +249,7 @@ pub extern "C" fn haspeljo_write_unknown(
     ensures { λ n. ⌜ WriterLeaves (messageWriter (networkOf mainnet) 0 (writeUnknown code (now (body .entry)))) at n
         (now (r .entry)) (now (r .exit)) (now (out .entry)) (now (out .exit)) ⌝ }
 {
-    let w = messages_write::write_unknown(out, at, crate::network_of(mainnet), code, body);
+    let w = messages_opaque_write::write_unknown(out, at, crate::network_of(mainnet), code, body);
     written_result(w, r)
 }
 

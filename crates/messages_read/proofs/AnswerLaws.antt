@@ -11,10 +11,10 @@ use Rattle.handshake.specs.Entry.{Entry, entry}
 use Rattle.messages.specs.Message as Bodies
 use Rattle.messages.specs.Message.{modifierRequest, inv, count, ids, payload, payloads, peersBody}
 use Rattle.messages.specs.Bogus.{bogusCount}
-use Rattle.messages_inventory_read.specs.declared.Inventory.{Inventory}
-use Rattle.messages_inventory_read.specs.Answers.{inventoryIn}
-use Rattle.messages_inventory_read.specs.Parts.{Items, items}
-use Rattle.messages_inventory_read.specs.PartsLaws.{ids-items, payloads-items}
+use Rattle.messages_inventory_response_read.specs.declared.Inventory.{Inventory}
+use Rattle.messages_inventory_response_read.specs.Answers.{inventoryIn}
+use Rattle.messages_inventory_response_read.specs.Parts.{Items, items}
+use Rattle.messages_inventory_response_read.specs.PartsLaws.{ids-items, payloads-items}
 use Rattle.messages_read.specs.PartsLaws.{entries-start}
 use Rattle.messages_read.specs.Answers.{messageOf}
 use Rattle.messages_read.specs.declared.Message.the-variants as Messages

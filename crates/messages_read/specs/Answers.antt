@@ -8,7 +8,7 @@ use Rattle.handshake.specs.Entry.{Entry}
 use Rattle.handshake_read.specs.declared.PeerSpec.{PeerSpec}
 use Rattle.messages.specs.Message as Bodies
 use Rattle.messages.specs.Bogus.{bogusCount}
-use Rattle.messages_inventory_read.specs.Answers.{inventoryOf}
+use Rattle.messages_inventory_response_read.specs.Answers.{inventoryOf}
 use Rattle.messages_read.specs.Parts.{entriesStart}
 use Rattle.messages_read.specs.declared.Peers.{Peers}
 use Rattle.messages_read.specs.declared.Message.{Message}

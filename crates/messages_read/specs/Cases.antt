@@ -9,7 +9,7 @@ use Rattle.vlq.specs.ShortString.{string, shortString}
 use Rattle.types.specs.declared.Address.the-variants.{None}
 use Rattle.handshake.specs.Entry.{Entry, version, addressIf, entry}
 use Rattle.messages.specs.Message.{count}
-use Rattle.messages_inventory_read.specs.Parts.{itemByIndex}
+use Rattle.messages_inventory_response_read.specs.Parts.{itemByIndex}
 use Rattle.messages_read.specs.Parts.{entries, entriesStart, entryAt}
 use Rattle.handshake_read.specs.declared.PeerSpec.{PeerSpec}
 use Rattle.messages_read.specs.Answers.{peerEntryAnswer}

@@ -6,7 +6,7 @@ use Rattle.wire.specs.Reader.{Answer, Reader, bind, andThen, listOf}
 use Rattle.vlq.specs.Vlq.{vlqLength}
 use Rattle.handshake.specs.Entry.{Entry, entry}
 use Rattle.messages.specs.Message.{count}
-use Rattle.messages_inventory_read.specs.Parts.{endOf, itemByIndex}
+use Rattle.messages_inventory_response_read.specs.Parts.{endOf, itemByIndex}
 
 -- count, entries
 unfoldable pub entries : ℕ → Reader (List Entry)

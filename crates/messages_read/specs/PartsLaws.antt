@@ -8,8 +8,8 @@ use Rattle.wire.specs.AnswerLaws.{bind-got, bind-step}
 use Rattle.wire.specs.ListOfLaws.{listed, Indexed}
 use Rattle.handshake.specs.Entry.{Entry, entry}
 use Rattle.messages.specs.Message.{peers, count, peersBody}
-use Rattle.messages_inventory_read.specs.Parts.{endOf, itemByIndex}
-use Rattle.messages_inventory_read.specs.PartsLaws.{count-got, item-of-list}
+use Rattle.messages_inventory_response_read.specs.Parts.{endOf, itemByIndex}
+use Rattle.messages_inventory_response_read.specs.PartsLaws.{count-got, item-of-list}
 use Rattle.messages_read.specs.Parts.{entries, entriesStart, entryAt, entryAmong}
 
 pub entries-start : (cap : ℕ) (s : List ℕ) {n at : ℕ} → count cap s 0 ≡ got n at → entriesStart s ≡ at

@@ -13,8 +13,8 @@ use Rattle.handshake_read.specs.Values.{peerGiven}
 use Rattle.messages.specs.Message as Bodies
 use Rattle.messages.specs.Message.{payload}
 use Rattle.messages.specs.Value.{MessageValue, getPeersValue, peersValue, modifierRequestValue, modifierResponseValue, invValue, syncInfoValue, unknownValue}
-use Rattle.messages_inventory_read.specs.Values.{idsGiven, payloadsGiven}
-use Rattle.messages_inventory_read.specs.declared.Inventory.{Inventory}
+use Rattle.messages_inventory_response_read.specs.Values.{idsGiven, payloadsGiven}
+use Rattle.messages_inventory_response_read.specs.declared.Inventory.{Inventory}
 use Rattle.messages_read.specs.Parts.{entryAt}
 use Rattle.messages_read.specs.declared.Peers.{Peers}
 use Rattle.messages_read.specs.declared.Message.{Message}

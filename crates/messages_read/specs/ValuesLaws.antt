@@ -17,9 +17,9 @@ use Rattle.messages.specs.Message as Bodies
 use Rattle.messages.specs.Message.{Message, payload, message}
 use Rattle.messages.specs.PlacesLaws.{ReadBy, byNone, byPeers, byRequest, byResponse, byInv, bySyncInfo, byUnknown, read-by}
 use Rattle.messages.specs.Value.{peersValue, modifierRequestValue, modifierResponseValue, invValue, messageValue}
-use Rattle.messages_inventory_read.specs.Parts.{Items}
-use Rattle.messages_inventory_read.specs.PartsLaws.{ids-items, payloads-items}
-use Rattle.messages_inventory_read.specs.ValuesLaws.{ids-given, payloads-given, items-from}
+use Rattle.messages_inventory_response_read.specs.Parts.{Items}
+use Rattle.messages_inventory_response_read.specs.PartsLaws.{ids-items, payloads-items}
+use Rattle.messages_inventory_response_read.specs.ValuesLaws.{ids-given, payloads-given, items-from}
 use Rattle.messages_read.specs.Answers.{peersOf, messageOf}
 use Rattle.messages_read.specs.Parts.{entries, entriesStart, entryAt}
 use Rattle.messages_read.specs.PartsLaws.{peers-entries, entries-read, entry-at}

@@ -19,9 +19,9 @@ use messages::MODIFIER_REQUEST;
 use messages::MODIFIER_RESPONSE;
 use messages::PEERS;
 use messages::SYNC_INFO;
-use messages_inventory_read::CountRead;
-use messages_inventory_read::Inventory;
-use messages_inventory_read::InventoryRead;
+use messages_inventory_response_read::CountRead;
+use messages_inventory_response_read::Inventory;
+use messages_inventory_response_read::InventoryRead;
 use types::Address;
 use types::BodyPlace;
 use types::Network;
@@ -80,18 +80,20 @@ pub fn from_frame(code: u8, body: &[u8], cap: usize, network: Network) -> Messag
             PeersRead::Value(peers, end) => MessageRead::Value(Message::Peers(peers), end),
             PeersRead::Refused(m) => MessageRead::Refused(m),
         },
-        INV => match messages_inventory_read::parse_inv_body(body) {
+        INV => match messages_inventory_response_read::parse_inv_body(body) {
             InventoryRead::Value(ids, end) => MessageRead::Value(Message::Inv(ids), end),
             InventoryRead::Refused(m) => MessageRead::Refused(m),
         },
-        MODIFIER_REQUEST => match messages_inventory_read::parse_inv_body(body) {
+        MODIFIER_REQUEST => match messages_inventory_response_read::parse_inv_body(body) {
             InventoryRead::Value(ids, end) => MessageRead::Value(
                 Message::ModifierRequest(ids),
                 end,
             ),
             InventoryRead::Refused(m) => MessageRead::Refused(m),
         },
-        MODIFIER_RESPONSE => match messages_inventory_read::parse_modifier_response_body(body) {
+        MODIFIER_RESPONSE => match messages_inventory_response_read::parse_modifier_response_body(
+            body,
+        ) {
             InventoryRead::Value(payloads, end) => MessageRead::Value(
                 Message::ModifierResponse(payloads),
                 end,
@@ -107,7 +109,7 @@ pub fn from_frame(code: u8, body: &[u8], cap: usize, network: Network) -> Messag
 pub fn parse_peers_body(body: &[u8], cap: usize, network: Network) -> PeersRead
     ensures { λ r. ⌜ peersAnswer r ≡ mapAnswer (messageOf network (now (body .entry))) (peersBody cap (now (body .entry)) 0) ⌝ }
 {
-    match messages_inventory_read::read_count(body, Cursor { at: 0 }, cap) {
+    match messages_inventory_response_read::read_count(body, Cursor { at: 0 }, cap) {
         CountRead::Value(n, c) => {
             let start = BodyPlace(c.at);
             match count_bogus(body, c, n, network) {
@@ -140,7 +142,7 @@ pub fn read_entry(body: &[u8], at: BodyPlace) -> PeerEntryRead
 pub fn entry_by_index(body: &[u8], cap: usize, index: usize) -> PeerEntryRead
     ensures { λ r. ⌜ peerEntryAnswer r ≡ mapAnswer peerSpecOf (entryAt cap index (now (body .entry))) ⌝ }
 {
-    match messages_inventory_read::read_count(body, Cursor { at: 0 }, cap) {
+    match messages_inventory_response_read::read_count(body, Cursor { at: 0 }, cap) {
         CountRead::Value(count, c) => entry_among(body, c, count, index),
         CountRead::Refused(m) => PeerEntryRead::Refused(m),
     }

@@ -15,7 +15,7 @@ use Rattle.types.specs.declared.StreamPlace.{StreamPlace}
 use Rattle.frame_read.specs.declared.StreamPart.{StreamPart}
 use Rattle.handshake.specs.Entry.{version, addressIf, feature, entry}
 use Rattle.messages.specs.Message.{count, inventoryHeader, total, payloadAfter, payload}
-use Rattle.messages_inventory_read.specs.Parts.{items, itemsStart, itemByIndex, itemAt, idAt, payloadAt}
+use Rattle.messages_inventory_response_read.specs.Parts.{items, itemsStart, itemByIndex, itemAt, idAt, payloadAt}
 use Rattle.messages_read.specs.Parts.{entries, entriesStart, entryAt}
 use Rattle.walk_by_index.specs.InStream.{isInside, inStream, fromBody, entryInStream, idInStream, payloadInStream}
 use Rattle.walk_by_index.specs.declared.StreamEntry.{StreamEntry}

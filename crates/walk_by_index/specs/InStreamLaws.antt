@@ -24,8 +24,8 @@ use Rattle.handshake_read.specs.Answers.{peerSpecOf}
 use Rattle.messages.specs.Message as Bodies
 use Rattle.messages.specs.Message.{payload}
 use Rattle.messages.specs.PlacesLaws.{gives-payload}
-use Rattle.messages_inventory_read.specs.Answers.{idOf, payloadOf}
-use Rattle.messages_inventory_read.specs.Parts.{Items, items, itemsStart, itemByIndex, itemAt, idAt, payloadAt}
+use Rattle.messages_inventory_response_read.specs.Answers.{idOf, payloadOf}
+use Rattle.messages_inventory_response_read.specs.Parts.{Items, items, itemsStart, itemByIndex, itemAt, idAt, payloadAt}
 use Rattle.messages_read.specs.Parts.{entries, entriesStart, entryAt}
 use Rattle.walk_read.specs.Given.{partIn}
 use Rattle.walk_by_index.specs.InStream.{isInside, inStream, streamEntry, streamPayload, fromBody, entryInStream, idInStream, payloadInStream}

@@ -5,9 +5,9 @@ ghost use Rattle.walk_by_index.specs.InStream.{isInside, inStream, strea
 ghost use Rattle.walk_by_index.specs.Answers.{streamEntryAnswer, streamIdAnswer, streamPayloadAnswer};
 use frame_read::StreamPart;
 use handshake_read::PeerSpec;
-use messages_inventory_read::IdRead;
-use messages_inventory_read::Payload;
-use messages_inventory_read::PayloadByIndexRead;
+use messages_inventory_response_read::IdRead;
+use messages_inventory_response_read::Payload;
+use messages_inventory_response_read::PayloadByIndexRead;
 use messages_read::PeerEntryRead;
 use types::Address;
 use types::BodyPlace;
@@ -82,7 +82,7 @@ pub fn id_in_stream(s: &[u8], body: StreamPart, index: usize) -> StreamIdRead
     }
     let from = body.start.0;
     let to = from + body.len;
-    match messages_inventory_read::id_by_index(&s[from..to], index) {
+    match messages_inventory_response_read::id_by_index(&s[from..to], index) {
         IdRead::Value(id) => StreamIdRead::Value(in_stream(id, body)),
         IdRead::Refused(m) => StreamIdRead::Refused(m),
     }
@@ -97,7 +97,7 @@ pub fn payload_in_stream(s: &[u8], body: StreamPart, index: usize) -> StreamPayl
     }
     let from = body.start.0;
     let to = from + body.len;
-    match messages_inventory_read::payload_by_index(&s[from..to], index) {
+    match messages_inventory_response_read::payload_by_index(&s[from..to], index) {
         PayloadByIndexRead::Value(p, end) => StreamPayloadRead::Value(
             payload_places(p, body),
             in_stream(end, body),

@@ -11,7 +11,7 @@ use Rattle.handshake.specs.Entry.{Entry, entry}
 use Rattle.handshake_read.specs.Parts.{featureAt}
 use Rattle.handshake_read.specs.Values.{entryPlace}
 use Rattle.messages.specs.Writes.{MessageWrite, valueOf}
-use Rattle.messages_inventory_read.specs.Parts.{idAt, payloadAt}
+use Rattle.messages_inventory_response_read.specs.Parts.{idAt, payloadAt}
 use Rattle.messages_read.specs.Parts.{entryAt}
 use Rattle.messages_read.specs.declared.Peers.{Peers}
 use Rattle.messages_read.specs.declared.Message.the-variants as Messages

@@ -16,12 +16,12 @@ use Rattle.walk.specs.CallsLaws.{called-handshake, called-built, called-peers, 
 use Rattle.handshake_write.proofs.write_handshake.Reads as write_handshake
 use Rattle.handshake_build.proofs.build.Reads as build
 use Rattle.messages_peers_write.proofs.write_peers.Reads as write_peers
-use Rattle.messages_write.proofs.write_get_peers.Reads as write_get_peers
+use Rattle.messages_opaque_write.proofs.write_get_peers.Reads as write_get_peers
 use Rattle.messages_inventory_write.proofs.write_modifier_request.Reads as write_modifier_request
 use Rattle.messages_response_write.proofs.write_modifier_response.Reads as write_modifier_response
 use Rattle.messages_inventory_write.proofs.write_inv.Reads as write_inv
-use Rattle.messages_write.proofs.write_sync_info.Reads as write_sync_info
-use Rattle.messages_write.proofs.write_unknown.Reads as write_unknown
+use Rattle.messages_opaque_write.proofs.write_sync_info.Reads as write_sync_info
+use Rattle.messages_opaque_write.proofs.write_unknown.Reads as write_unknown
 
 -- every message but Peers, of which alone the cap is asked
 abbrev Other : MessageWrite → Type 0

@@ -2,7 +2,7 @@
 use mathlib.Core.Path.{sym, ap, _∙_}
 use borrow.Author.Tests.{lt-ltb, le-ltb}
 use Rattle.wire.specs.ReaderLaws.{map-got, map-refused, map-refusal}
-use Rattle.messages_inventory_read.specs.Parts.{itemByIndex}
+use Rattle.messages_inventory_response_read.specs.Parts.{itemByIndex}
 use Rattle.messages_read.specs.Parts.{entryAmong}
 use Rattle.messages_read.specs.Answers.{entriesEnded, entriesEndAnswer}
 use borrow.Author.Needs.{needs}

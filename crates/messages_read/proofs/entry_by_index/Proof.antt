@@ -4,7 +4,7 @@ use Rattle.wire.specs.ReaderLaws.{map-refusal}
 use denote.Ref.{now}
 use Rattle.messages_read.specs.Parts.{entries, entryAt}
 use Rattle.messages_read.specs.PartsLaws.{entry-among}
-use Rattle.messages_inventory_read.specs.Answers.{countAnswer}
+use Rattle.messages_inventory_response_read.specs.Answers.{countAnswer}
 use borrow.Author.Needs.{needs}
 use Rattle.messages_read.proofs.entry_by_index.Statement.{statement}
 use Rattle.messages_read.proofs.entry_by_index.Tie as tie

@@ -4,7 +4,7 @@ use denote.Ref.{now}
 use borrow.Author.Tests.{ne-eqb}
 use Rattle.wire.specs.ReaderLaws.{map-got, map-refused, map-value}
 use Rattle.messages.specs.Message.{modifierRequest, inv, wholeBody, message}
-use Rattle.messages_inventory_read.specs.Answers.{inventoryIn, inventoryAnswer}
+use Rattle.messages_inventory_response_read.specs.Answers.{inventoryIn, inventoryAnswer}
 use Rattle.messages_read.specs.Answers.{peersAnswer}
 use Rattle.messages_read.proofs.AnswerLaws.{request-got, inv-got, ids-refused, response-got, response-refused}
 use borrow.Author.Needs.{needs}

@@ -4,7 +4,7 @@ use denote.Ref.{now}
 use Rattle.wire.specs.ReaderLaws.{map-got, map-refused, map-refusal}
 use Rattle.messages.specs.Message.{peersBody}
 use Rattle.messages.specs.Bogus.{bogusCount}
-use Rattle.messages_inventory_read.specs.Answers.{countAnswer}
+use Rattle.messages_inventory_response_read.specs.Answers.{countAnswer}
 use Rattle.messages_read.specs.Answers.{bogusAnswer}
 use Rattle.messages_read.proofs.AnswerLaws.{peers-got, peers-refused}
 use borrow.Author.Needs.{needs}
