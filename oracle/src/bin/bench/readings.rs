@@ -1,6 +1,6 @@
 //! Rows of hashes and of readers.
 
-use crate::rows::{Row, Side, HALF};
+use crate::rows::{Row, Side, HALF, ONE_READING};
 use crate::values::{self, ENTRIES, MAINNET};
 use oracle::ours::entries::{entry_at, parsed};
 use oracle::ours::messages::{opened, payload_at};
@@ -89,7 +89,7 @@ fn first_step(calls: usize) -> Row {
     };
     let rust = |s: &[u8]| assert_eq!(first_end(s), s.len());
     let [ours, rust] = both::<[u8]>(calls, bytes, ours, rust);
-    Row::plain("first step of a session", HALF, ours, rust)
+    Row::plain("first step of a session", ONE_READING, ours, rust)
 }
 
 /// The first step put together from the Rust's functions: where the handshake ends.

@@ -28,6 +28,9 @@ pub struct Row {
 /// Where the Rust allocates and neither side hashes, ours may take half of its time, but for the writing of a handshake.
 pub const HALF: f64 = 0.5;
 
+/// The first step of a session: a handshake that is read twice takes more.
+pub const ONE_READING: f64 = 0.3;
+
 /// Elsewhere, as much as the Rust.
 pub const WHOLE: f64 = 1.0;
 
