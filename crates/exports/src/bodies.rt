@@ -1,5 +1,4 @@
 // Message bodies for Rust and C. Every place is a place in the body.
-ghost use mathlib.Core.Path.{_≡_};
 ghost use lib.ListN.{length};
 ghost use Rattle.wire.specs.Reader.{mapAnswer};
 ghost use Rattle.handshake_read.specs.Answers.{peerSpecOf};

@@ -1,5 +1,4 @@
 // Frames for Rust and C.
-ghost use mathlib.Core.Path.{_≡_};
 ghost use Rattle.wire.specs.Reader.{mapAnswer};
 ghost use Rattle.frame.specs.Frame.{frame};
 ghost use Rattle.frame_read.specs.Answers.{frameOf};

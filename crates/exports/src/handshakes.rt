@@ -1,5 +1,4 @@
 // Entries and handshakes for Rust and C.
-ghost use mathlib.Core.Path.{_≡_};
 ghost use Rattle.wire.specs.Reader.{andThen, place, mapAnswer};
 ghost use Rattle.handshake.specs.Entry.{feature, entry, handshake};
 ghost use Rattle.handshake.specs.Verdict.{validatePeer};

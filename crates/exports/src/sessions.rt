@@ -1,5 +1,4 @@
 // The session walk for Rust and C.
-ghost use mathlib.Core.Path.{_≡_};
 ghost use Rattle.walk.specs.Session.{sessionStep};
 ghost use Rattle.walk_read.specs.Steps.{stepOf};
 ghost use Rattle.walk_by_index.specs.InStream.{entryInStream, idInStream, payloadInStream};

@@ -1,5 +1,5 @@
 -- What each answer of the code means.
-use Prim.Native.Nat.{ℕ, _+_}
+use Prim.Native.Nat.{_+_}
 use Rattle.wire.specs.Reader.{Answer, got, refused}
 use Rattle.types.specs.declared.StreamPlace.{StreamPlace}
 use Rattle.walk_by_index.specs.declared.StreamEntry.{StreamEntry}

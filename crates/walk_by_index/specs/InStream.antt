@@ -1,5 +1,5 @@
--- What is reached by index from an item of the stream: what the reader by index gives of the bytes of its body, each place of the body as a place in the
--- stream (document 01, "The session walk": one becomes the other only through the body's start).
+-- What is reached by index from an item of the stream: what the reader by index gives of the bytes of its body, each place as a place in the stream
+-- (document 01, "The session walk": one becomes the other only through the body's start).
 use Prim.Native.Nat.{ℕ, _+_}
 use mathlib.Core.Bool.{Bool, cond}
 use mathlib.Core.List.{List}

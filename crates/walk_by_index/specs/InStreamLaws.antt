@@ -1,22 +1,21 @@
--- Laws of `InStream`: of a body in the stream, a place that is read there is as far after the body's start in the stream, so that the bytes of every entry,
--- id and payload stand in the stream at the places that are given.
+-- Laws of `InStream`: a place of a body in the stream is as far after the body's start, so that the bytes of every entry, id and payload stand in the
+-- stream at the places that are given.
 use Prim.Native.Nat.{ℕ, _+_, _^_, _≤_, _<_}
 use native.Mathlib.Omega.{arith}
 use mathlib.Core.Bool.{Bool, true, false, cond}
 use mathlib.Core.List.{List}
-use mathlib.Core.Path.{_≡_, refl, sym, ap, _∙_}
+use mathlib.Core.Path.{_≡_, sym, ap, _∙_}
 use lib.Dec.{ltb}
 use lib.ListN.{length, take, drop, length-take, length-drop}
 use lib.Seq.{drop-drop}
 use borrow.Author.Tests.{le-leb, lt-ltb, leb-true}
 use Rattle.wire.specs.Reader.{Answer, got, refused, Reader, bind, Segment, part, listOf, mapAnswer}
-use Rattle.wire.specs.ReaderLaws.{map-got, map-value}
+use Rattle.wire.specs.ReaderLaws.{map-value}
 use Rattle.wire.specs.AnswerLaws.{no-answer, bind-got}
 use Rattle.wire.specs.GivesLaws.{PartGiven, gives-part}
 use Rattle.wire.specs.ReadsBack.{StandsAt}
 use Rattle.wire.specs.StableLaws.{take-drop-take}
 use Rattle.types.specs.Places.{located}
-use Rattle.types.specs.declared.StreamPlace.{StreamPlace}
 use Rattle.frame_read.specs.declared.StreamPart.{StreamPart}
 use Rattle.handshake.specs.Entry.{Entry, entry}
 use Rattle.handshake.specs.PlacesLaws.{gives-entry}
@@ -25,7 +24,7 @@ use Rattle.messages.specs.Message as Bodies
 use Rattle.messages.specs.Message.{payload}
 use Rattle.messages.specs.PlacesLaws.{gives-payload}
 use Rattle.messages_inventory_response_read.specs.Answers.{idOf, payloadOf}
-use Rattle.messages_inventory_response_read.specs.Parts.{Items, items, itemsStart, itemByIndex, itemAt, idAt, payloadAt}
+use Rattle.messages_inventory_response_read.specs.Parts.{items, itemsStart, itemByIndex, itemAt, idAt, payloadAt}
 use Rattle.messages_read.specs.Parts.{entries, entriesStart, entryAt}
 use Rattle.walk_read.specs.Given.{partIn}
 use Rattle.walk_by_index.specs.InStream.{isInside, inStream, streamEntry, streamPayload, fromBody, entryInStream, idInStream, payloadInStream}

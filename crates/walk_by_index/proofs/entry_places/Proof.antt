@@ -1,5 +1,4 @@
 -- `walk_by_index::entry_places` meets its contract: each place is that of the part or of the first feature.
-use mathlib.Core.Path.{_≡_}
 use borrow.Author.Needs.{needs}
 use Rattle.walk_by_index.proofs.entry_places.Statement.{statement}
 use Rattle.walk_by_index.proofs.entry_places.Tie as tie

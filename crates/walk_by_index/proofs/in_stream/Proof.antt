@@ -1,5 +1,5 @@
 -- `walk_by_index::in_stream` meets its contract: by the two cases of what `BodyPlace::in_stream` says.
-use mathlib.Core.Path.{_≡_, sym, ap, _∙_}
+use mathlib.Core.Path.{sym, ap, _∙_}
 use borrow.Author.Needs.{needs}
 use Rattle.walk_by_index.specs.InStream.{locatedOr, inStream}
 use Rattle.walk_by_index.proofs.in_stream.Statement.{statement}

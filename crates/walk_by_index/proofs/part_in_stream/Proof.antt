@@ -1,5 +1,4 @@
 -- `walk_by_index::part_in_stream` meets its contract: its place is that of its start.
-use mathlib.Core.Path.{_≡_}
 use borrow.Author.Needs.{needs}
 use Rattle.walk_by_index.proofs.part_in_stream.Statement.{statement}
 use Rattle.walk_by_index.proofs.part_in_stream.Tie as tie

@@ -1,5 +1,4 @@
 -- `walk_by_index::payload_places` meets its contract: each place is that of the id or of the bytes.
-use mathlib.Core.Path.{_≡_}
 use borrow.Author.Needs.{needs}
 use Rattle.walk_by_index.proofs.payload_places.Statement.{statement}
 use Rattle.walk_by_index.proofs.payload_places.Tie as tie
