@@ -1,6 +1,5 @@
 -- Laws of what is said of one row and of all: the questions of a row, in their order; those of all rows, asked row by row; the body's question.
-use Prim.Native.Nat.{ℕ, suc, _+_, _/_, _≤_, _<_, min}
-use native.Mathlib.Numerals.{add-one}
+use Prim.Native.Nat.{ℕ, _+_, _/_, _≤_, _<_, min}
 use native.Mathlib.Omega.{arith}
 use mathlib.Core.Bool.{Bool, true, false, cond, _&&_}
 use mathlib.Core.List.{List, [], _∷_, _++_, map, flatMap, append-nil, map-append}
@@ -20,7 +19,7 @@ use Rattle.wire.specs.declared.Size.the-variants.{Bytes, Refused}
 use Rattle.vlq.specs.Vlq.{limit}
 use Rattle.handshake.specs.declared.EntryRow.{EntryRow}
 use Rattle.handshake.specs.Value.{entryBytes, shortStrings, utf8Strings, fewFeatures, lengthsWithin, entriesAsked}
-use Rattle.handshake.specs.Tables.{Tables, tables, rows, entryRow, entryRows, entryFromRow, entriesOf, tablesWhole, entryInside}
+use Rattle.handshake.specs.Tables.{Tables, rows, entryRow, entryRows, entryFromRow, entriesOf, tablesWhole, entryInside}
 use Rattle.handshake.specs.RowsLaws.{rows-last}
 use Rattle.handshake.specs.Writes.{rowInside}
 use Rattle.handshake_entry_rows.specs.ValueLaws.{own-entry, own-inside}

@@ -1,6 +1,6 @@
 // What is asked of entries before they are written from a table of rows beside a lent buffer (document 01, "Questions", Writers): how many bytes
 // they are written as, or the number of the first question answered "no".
-ghost use mathlib.Core.Bool.{_&&_, _||_, true};
+ghost use mathlib.Core.Bool.{_||_, true};
 ghost use mathlib.Core.Path.{_≡_};
 ghost use mathlib.Core.List.{List, [], _∷_, map, flatMap};
 ghost use Prim.Native.Nat.{ℕ, _+_, _-_, _/_, _≤_, min};
@@ -17,7 +17,6 @@ ghost use Rattle.handshake_entry_ask.specs.Asked.{rowSize, entrySize, en
 use handshake::ENTRY_ROW_SIZE;
 use handshake::EntryRow;
 use handshake::FEATURE_ROW_SIZE;
-use handshake::FeatureRow;
 use handshake::IPV4_LENGTH;
 use handshake::IPV6_LENGTH;
 use handshake::MAX_FEATURES;

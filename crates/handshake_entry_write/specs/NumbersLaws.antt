@@ -9,13 +9,13 @@ use lib.Dec.{eqb, leb}
 use lib.ListN.{length, getD, drop, length-append}
 use borrow.Author.Tests.{ltb-true, lt-ltb, leb-true, ne-eqb}
 use Rattle.wire.specs.Bytes.{every}
-use Rattle.wire.specs.BytesLaws.{and-true, isByte, every-take, every-drop}
+use Rattle.wire.specs.BytesLaws.{isByte, every-take, every-drop}
 use Rattle.handshake.specs.declared.EntryRow.{EntryRow}
 use Rattle.handshake.specs.declared.FeatureRow.{FeatureRow}
 use Rattle.handshake.specs.Entry.{addressOf}
 use Rattle.handshake.specs.AddressLaws.{addressBytes-of}
-use Rattle.handshake.specs.Value.{addressBytes, shortStrings}
-use Rattle.handshake.specs.Tables.{tables, bytesAt, entryFromRow, featureNumbers, entryNumbers, inside}
+use Rattle.handshake.specs.Value.{addressBytes}
+use Rattle.handshake.specs.Tables.{bytesAt, featureNumbers, entryNumbers, inside}
 use Rattle.handshake.specs.TablesLaws.{length-bytesAt, numbers-of}
 use Rattle.vlq.specs.Vlq.{vlqBytes}
 

@@ -9,7 +9,7 @@ use lib.Dec.{eqb, ltb}
 use borrow.Author.Tests.{lt-ltb, le-ltb, eq-eqb}
 use Rattle.wire.specs.BytesLaws.{and-true}
 use Rattle.wire.specs.Numbers.{lt-or-ge}
-use Rattle.wire.specs.Output.{Question, ask, sized}
+use Rattle.wire.specs.Output.{ask, sized}
 use Rattle.wire.specs.declared.Size.{Size}
 use Rattle.wire.specs.declared.Size.the-variants.{Bytes, Refused}
 use Rattle.wire.specs.Earliest.{position, earlier, together, Twice, numbers, ofOne, ofOther, ofBoth, fresh, distinct}

@@ -3,7 +3,7 @@ use Prim.Native.Nat.{ℕ, _+_, _-_, _*_, _≤_}
 use native.Mathlib.Nat.{sub-zero}
 use native.Mathlib.Omega.{arith}
 use mathlib.Core.List.{map, flatMap}
-use mathlib.Core.Path.{_≡_, refl, sym, ap, _∙_}
+use mathlib.Core.Path.{_≡_, sym, ap, _∙_}
 use denote.Ref.{now}
 use lib.Dec.{leb}
 use lib.ListN.{length, length-append}
@@ -13,7 +13,7 @@ use Rattle.wire.specs.declared.Size.the-variants.{Bytes}
 use Rattle.vlq.specs.Vlq.{limit}
 use Rattle.handshake.specs.declared.FeatureRow.{FeatureRow}
 use Rattle.handshake.specs.Value.{featureBytes}
-use Rattle.handshake.specs.Tables.{rows, featureRow, bytesAt, featureFromRow}
+use Rattle.handshake.specs.Tables.{rows, featureRow, featureFromRow}
 use Rattle.handshake.specs.RowsLaws.{rows-from, bytes-next, bytes-none, Passed, passed-start, passed-next, passed-not, passed-end}
 use Rattle.handshake_entry_rows.specs.ValueLaws.{part-inside}
 use Rattle.handshake_entry_ask.specs.LengthLaws.{bodyWithin, length-feature, within-rows}

@@ -1,5 +1,4 @@
 -- `handshake_entry_ask::first_of` meets its contract: the definition's test of both places.
-use Prim.Native.Nat.{_≤_, _<_}
 use native.Mathlib.Omega.{arith}
 use borrow.Author.Needs.{needs}
 use borrow.Author.Tests.{lt-ltb, le-ltb}

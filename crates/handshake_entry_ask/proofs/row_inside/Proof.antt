@@ -1,5 +1,4 @@
 -- `handshake_entry_ask::row_inside` meets its contract: each answer is the definition's, by the tests that led to it.
-use native.Mathlib.Omega.{arith}
 use mathlib.Core.Path.{sym, _∙_}
 use borrow.Author.Needs.{needs}
 use borrow.Author.Tests.{leb-true, not-true, not-false}

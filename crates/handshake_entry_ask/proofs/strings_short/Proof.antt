@@ -1,7 +1,4 @@
 -- `handshake_entry_ask::strings_short` meets its contract: the strings are the parts.
-use native.Mathlib.Omega.{arith}
-use mathlib.Core.Path.{sym, ap}
-use lib.ListN.{length}
 use borrow.Author.Needs.{needs}
 use borrow.Author.Tests.{le-leb, lt-leb}
 use Rattle.handshake.specs.Value.{shortStrings}
