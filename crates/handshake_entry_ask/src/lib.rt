@@ -51,6 +51,26 @@ pub fn ask_entries(before: usize, entries: &[u32], features: &[u32], buffer: &[u
     ask_body(before, ask_rows(entries, features, buffer))
 }
 
+// Of the entry of a row, after 16.
+pub fn ask_row(features: &[u32], buffer: &[u8], e: EntryRow) -> Size
+    ensures { λ r. ⌜ r ≡ rowSize (now (features .entry)) (now (buffer .entry)) e ⌝ }
+{
+    if !row_inside(features, buffer, e) {
+        return Size::Refused(12);
+    }
+    if !strings_short(buffer, e) {
+        return Size::Refused(13);
+    }
+    if !strings_utf8(buffer, e) {
+        return Size::Refused(4);
+    }
+    if MAX_FEATURES < e.count as usize {
+        return Size::Refused(15);
+    }
+    let before = 6 + e.agentlen as usize + e.namelen as usize + address_len(e);
+    features_size(before, features, buffer, e)
+}
+
 // Adds the body's question to the size of its end.
 fn ask_body(before: usize, size: Size) -> Size
     ensures { λ r. ⌜ r ≡ bodySize before size ⌝ }
@@ -134,26 +154,6 @@ fn place_in_order(number: u8) -> u8
         3 => 4,
         _ => 5,
     }
-}
-
-// Of the entry of a row, after 16.
-pub fn ask_row(features: &[u32], buffer: &[u8], e: EntryRow) -> Size
-    ensures { λ r. ⌜ r ≡ rowSize (now (features .entry)) (now (buffer .entry)) e ⌝ }
-{
-    if !row_inside(features, buffer, e) {
-        return Size::Refused(12);
-    }
-    if !strings_short(buffer, e) {
-        return Size::Refused(13);
-    }
-    if !strings_utf8(buffer, e) {
-        return Size::Refused(4);
-    }
-    if MAX_FEATURES < e.count as usize {
-        return Size::Refused(15);
-    }
-    let before = 6 + e.agentlen as usize + e.namelen as usize + address_len(e);
-    features_size(before, features, buffer, e)
 }
 
 // Is each part that a row names inside the buffer, and each feature row inside its table (question 12)?
