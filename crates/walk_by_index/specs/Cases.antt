@@ -17,7 +17,7 @@ use Rattle.handshake.specs.Entry.{version, addressIf, feature, entry}
 use Rattle.messages.specs.Message.{count, inventoryHeader, total, payloadAfter, payload}
 use Rattle.messages_inventory_response_read.specs.Parts.{items, itemsStart, itemByIndex, itemAt, idAt, payloadAt}
 use Rattle.messages_read.specs.Parts.{entries, entriesStart, entryAt}
-use Rattle.walk_by_index.specs.InStream.{isInside, inStream, fromBody, entryInStream, idInStream, payloadInStream}
+use Rattle.walk_by_index.specs.InStream.{isInside, inStream, entryPlaces, idPlaces, payloadPlaces, fromBody, entryInStream, idInStream, payloadInStream}
 use Rattle.walk_by_index.specs.declared.StreamEntry.{StreamEntry}
 use Rattle.walk_by_index.specs.declared.StreamPayload.{StreamPayload}
 
@@ -75,7 +75,7 @@ entryCases =
     ∷ []
 
 pub entry-cases : Holds entryCases
-unfolding entryCases entryInStream fromBody isInside inStream located mapAnswer entryAt entries entriesStart itemByIndex count fold listOf groups vlq vlqLength string shortString utf8From utf8 leadOf leadIn Utf8.leadRows version addressIf feature entry
+unfolding entryCases entryInStream entryPlaces fromBody isInside inStream located mapAnswer entryAt entries entriesStart itemByIndex count fold listOf groups vlq vlqLength string shortString utf8From utf8 leadOf leadIn Utf8.leadRows version addressIf feature entry
 entry-cases = refl
 
 -- ---- ids and payloads
@@ -94,7 +94,7 @@ idCases =
     ∷ []
 
 pub id-cases : Holds idCases
-unfolding idCases idInStream fromBody isInside inStream located mapAnswer idAt itemAt itemByIndex items itemsStart inventoryHeader count fold listOf groups vlq vlqLength
+unfolding idCases idInStream idPlaces fromBody isInside inStream located mapAnswer idAt itemAt itemByIndex items itemsStart inventoryHeader count fold listOf groups vlq vlqLength
 id-cases = refl
 
 -- a type byte, two payloads: of no bytes, and of three
@@ -110,5 +110,5 @@ payloadCases =
     ∷ []
 
 pub payload-cases : Holds payloadCases
-unfolding payloadCases payloadInStream fromBody isInside inStream located mapAnswer payloadAt itemAt itemByIndex items itemsStart inventoryHeader count total payloadAfter payload fold listOf groups vlq vlqLength
+unfolding payloadCases payloadInStream payloadPlaces fromBody isInside inStream located mapAnswer payloadAt itemAt itemByIndex items itemsStart inventoryHeader count total payloadAfter payload fold listOf groups vlq vlqLength
 payload-cases = refl

@@ -6,7 +6,6 @@ use mathlib.Core.List.{List}
 use lib.Dec.{leb}
 use lib.ListN.{length}
 use Rattle.wire.specs.Reader.{Answer, got, refused, bind, mapAnswer}
-use Rattle.wire.specs.declared.Part.{Part}
 use Rattle.types.specs.Places.{located}
 use Rattle.types.specs.declared.StreamPlace.{StreamPlace}
 use Rattle.types.specs.declared.Located.{Located}
@@ -28,42 +27,62 @@ isInside s part = leb (part .start .0 + part .len) (length s)
 
 -- ---- places of a body, as places in the stream
 
-abbrev pub locatedOr : StreamPlace → Located → StreamPlace
-locatedOr start (At place) = place
-locatedOr start (Refused m) = start
+-- a place outside the body, which no reader gives, is refused
+unfoldable pub inStream : StreamPart → ℕ → Located
+inStream body at = located (body .start) (body .len) (record { 0 = at })
 
--- of a place outside the body, which no reading gives, the body's start
-unfoldable pub inStream : StreamPart → ℕ → StreamPlace
-inStream body at = locatedOr (body .start) (located (body .start) (body .len) (record { 0 = at }))
+-- what follows a place: it goes on to f, a refusal stays
+abbrev pub locatedThen : {B : Type 0} → Located → (StreamPlace → Answer B) → Answer B
+locatedThen (At place) f = f place
+locatedThen (Refused m) f = refused m
 
-abbrev pub streamPart : StreamPart → Part → StreamPart
-streamPart body p = record { start = inStream body (p .start); len = p .len }
-
-abbrev pub streamEntry : StreamPart → PeerSpec → StreamEntry
-streamEntry body p =
+-- an entry, given the places of its agent, its name and its first feature; a payload, given those of its id and its bytes
+abbrev pub streamEntry : PeerSpec → StreamPlace → StreamPlace → StreamPlace → StreamEntry
+streamEntry p agent name first =
     record {
-      agent = streamPart body (p .agent);
+      agent = record { start = agent; len = p .agent .len };
       version = p .version;
-      name = streamPart body (p .name);
+      name = record { start = name; len = p .name .len };
       address = p .address;
-      features = record { count = p .features .count; start = inStream body (p .features .start) };
+      features = record { count = p .features .count; start = first };
     }
 
-abbrev pub streamPayload : StreamPart → Payload → StreamPayload
-streamPayload body p =
-    record { id = inStream body (p .id .0); bytes = record { start = inStream body (p .start .0); len = p .len } }
+abbrev pub streamPayload : Payload → StreamPlace → StreamPlace → StreamPayload
+streamPayload p id start = record { id = id; bytes = record { start = start; len = p .len } }
+
+-- what was read of the body with its places in the stream, and where it ends there; `next` is where it ends in the body
+unfoldable pub entryPlaces : StreamPart → PeerSpec → ℕ → Answer StreamEntry
+entryPlaces body p next =
+    locatedThen (inStream body (p .agent .start)) (λ agent.
+    locatedThen (inStream body (p .name .start)) (λ name.
+    locatedThen (inStream body (p .features .start)) (λ first.
+    locatedThen (inStream body next) (λ end.
+    got (streamEntry p agent name first) (end .0)))))
+
+unfoldable pub idPlaces : StreamPart → ℕ → ℕ → Answer StreamPlace
+idPlaces body at next =
+    locatedThen (inStream body at) (λ id.
+    locatedThen (inStream body next) (λ end.
+    got id (end .0)))
+
+unfoldable pub payloadPlaces : StreamPart → Payload → ℕ → Answer StreamPayload
+payloadPlaces body p next =
+    locatedThen (inStream body (p .id .0)) (λ id.
+    locatedThen (inStream body (p .start .0)) (λ start.
+    locatedThen (inStream body next) (λ end.
+    got (streamPayload p id start) (end .0))))
 
 -- ---- by index
 
--- an answer about a body: 12 where the body is not in the stream s; otherwise its value seen through f, and its next place in the stream
-unfoldable pub fromBody : {A B : Type 0} → (A → B) → List ℕ → StreamPart → Answer A → Answer B
-fromBody f s body answer = cond (isInside s body) (bind answer (λ a next. got (f a) (inStream body next .0))) (refused 12)
+-- an answer about a body: 12 where the body is not in the stream s; otherwise its value and its next place go on to f
+unfoldable pub fromBody : {A B : Type 0} → (A → ℕ → Answer B) → List ℕ → StreamPart → Answer A → Answer B
+fromBody f s body answer = cond (isInside s body) (bind answer f) (refused 12)
 
 unfoldable pub entryInStream : ℕ → ℕ → List ℕ → StreamPart → Answer StreamEntry
-entryInStream cap index s body = fromBody (streamEntry body) s body (mapAnswer peerSpecOf (entryAt cap index (partIn s body)))
+entryInStream cap index s body = fromBody (entryPlaces body) s body (mapAnswer peerSpecOf (entryAt cap index (partIn s body)))
 
 unfoldable pub idInStream : ℕ → List ℕ → StreamPart → Answer StreamPlace
-idInStream index s body = fromBody (inStream body) s body (mapAnswer idOf (idAt index (partIn s body)))
+idInStream index s body = fromBody (idPlaces body) s body (mapAnswer idOf (idAt index (partIn s body)))
 
 unfoldable pub payloadInStream : ℕ → List ℕ → StreamPart → Answer StreamPayload
-payloadInStream index s body = fromBody (streamPayload body) s body (mapAnswer payloadOf (payloadAt index (partIn s body)))
+payloadInStream index s body = fromBody (payloadPlaces body) s body (mapAnswer payloadOf (payloadAt index (partIn s body)))

@@ -1,7 +1,7 @@
 // What is reached by index from an item of the stream, with its places in the stream: an entry, an id or a payload of a message, given the stream and
 // where the message's body stands in it.
 ghost use mathlib.Core.Path.{_≡_};
-ghost use Rattle.walk_by_index.specs.InStream.{isInside, inStream, streamPart, streamEntry, streamPayload, entryInStream, idInStream, payloadInStream};
+ghost use Rattle.walk_by_index.specs.InStream.{isInside, inStream, streamEntry, entryPlaces, payloadPlaces, entryInStream, idInStream, payloadInStream};
 ghost use Rattle.walk_by_index.specs.Answers.{streamEntryAnswer, streamIdAnswer, streamPayloadAnswer};
 use frame_read::StreamPart;
 use handshake_read::PeerSpec;
@@ -14,7 +14,6 @@ use types::BodyPlace;
 use types::Located;
 use types::StreamPlace;
 use types::Version;
-use wire::Part;
 
 // The features of an entry: how many there are, and the place of the first.
 pub struct StreamFeatures {
@@ -65,10 +64,7 @@ pub fn entry_in_stream(s: &[u8], body: StreamPart, cap: usize, index: usize) -> 
     let from = body.start.0;
     let to = from + body.len;
     match messages_read::entry_by_index(&s[from..to], cap, index) {
-        PeerEntryRead::Value(peer, end) => StreamEntryRead::Value(
-            entry_places(peer, body),
-            in_stream(end, body),
-        ),
+        PeerEntryRead::Value(peer, end) => entry_places(peer, end, body),
         PeerEntryRead::Refused(m) => StreamEntryRead::Refused(m),
     }
 }
@@ -83,7 +79,10 @@ pub fn id_in_stream(s: &[u8], body: StreamPart, index: usize) -> StreamIdRead
     let from = body.start.0;
     let to = from + body.len;
     match messages_inventory_response_read::id_by_index(&s[from..to], index) {
-        IdRead::Value(id) => StreamIdRead::Value(in_stream(id, body)),
+        IdRead::Value(id) => match in_stream(id, body) {
+            Located::At(place) => StreamIdRead::Value(place),
+            Located::Refused(m) => StreamIdRead::Refused(m),
+        },
         IdRead::Refused(m) => StreamIdRead::Refused(m),
     }
 }
@@ -98,10 +97,7 @@ pub fn payload_in_stream(s: &[u8], body: StreamPart, index: usize) -> StreamPayl
     let from = body.start.0;
     let to = from + body.len;
     match messages_inventory_response_read::payload_by_index(&s[from..to], index) {
-        PayloadByIndexRead::Value(p, end) => StreamPayloadRead::Value(
-            payload_places(p, body),
-            in_stream(end, body),
-        ),
+        PayloadByIndexRead::Value(p, end) => payload_places(p, end, body),
         PayloadByIndexRead::Refused(m) => StreamPayloadRead::Refused(m),
     }
 }
@@ -117,51 +113,83 @@ fn is_inside(s: &[u8], part: StreamPart) -> bool
     part.len <= s.len() - from
 }
 
-// A place of the body as a place in the stream; of one outside, which no reader gives, the body's start.
-fn in_stream(at: BodyPlace, body: StreamPart) -> StreamPlace
+// A place of the body as a place in the stream; one outside, which no reader gives, is refused.
+fn in_stream(at: BodyPlace, body: StreamPart) -> Located
     ensures { λ r. ⌜ r ≡ inStream body (at .0) ⌝ }
 {
-    match at.in_stream(body.start, body.len) {
-        Located::At(place) => place,
-        Located::Refused(m) => body.start,
+    at.in_stream(body.start, body.len)
+}
+
+// An entry of the body with its places in the stream, and its end there; where one is refused, the refusal.
+fn entry_places(peer: PeerSpec, end: BodyPlace, body: StreamPart) -> StreamEntryRead
+    ensures { λ r. ⌜ streamEntryAnswer r ≡ entryPlaces body peer (end .0) ⌝ }
+{
+    match in_stream(BodyPlace(peer.agent.start), body) {
+        Located::At(agent) => match in_stream(BodyPlace(peer.name.start), body) {
+            Located::At(name) => match in_stream(BodyPlace(peer.features.start), body) {
+                Located::At(first) => match in_stream(end, body) {
+                    Located::At(end) => StreamEntryRead::Value(
+                        stream_entry(peer, agent, name, first),
+                        end,
+                    ),
+                    Located::Refused(m) => StreamEntryRead::Refused(m),
+                },
+                Located::Refused(m) => StreamEntryRead::Refused(m),
+            },
+            Located::Refused(m) => StreamEntryRead::Refused(m),
+        },
+        Located::Refused(m) => StreamEntryRead::Refused(m),
     }
 }
 
-fn part_in_stream(part: Part, body: StreamPart) -> StreamPart
-    ensures { λ r. ⌜ r ≡ streamPart body part ⌝ }
+// An entry, given the places of its agent, its name and its first feature.
+fn stream_entry(
+    peer: PeerSpec,
+    agent: StreamPlace,
+    name: StreamPlace,
+    first: StreamPlace,
+) -> StreamEntry
+    ensures { λ r. ⌜ r ≡ streamEntry peer agent name first ⌝ }
 {
-    let start = in_stream(BodyPlace(part.start), body);
-    StreamPart {
-        start,
-        len: part.len,
-    }
-}
-
-fn entry_places(peer: PeerSpec, body: StreamPart) -> StreamEntry
-    ensures { λ r. ⌜ r ≡ streamEntry body peer ⌝ }
-{
-    let agent = part_in_stream(peer.agent, body);
-    let name = part_in_stream(peer.name, body);
-    let start = in_stream(BodyPlace(peer.features.start), body);
     let version = peer.version;
     let address = peer.address;
     let count = peer.features.count;
     StreamEntry {
-        agent,
+        agent: StreamPart {
+            start: agent,
+            len: peer.agent.len,
+        },
         version,
-        name,
+        name: StreamPart {
+            start: name,
+            len: peer.name.len,
+        },
         address,
-        features: StreamFeatures { count, start },
+        features: StreamFeatures {
+            count,
+            start: first,
+        },
     }
 }
 
-fn payload_places(p: Payload, body: StreamPart) -> StreamPayload
-    ensures { λ r. ⌜ r ≡ streamPayload body p ⌝ }
+// So of a payload.
+fn payload_places(p: Payload, end: BodyPlace, body: StreamPart) -> StreamPayloadRead
+    ensures { λ r. ⌜ streamPayloadAnswer r ≡ payloadPlaces body p (end .0) ⌝ }
 {
-    let id = in_stream(p.id, body);
-    let start = in_stream(p.start, body);
-    StreamPayload {
-        id,
-        bytes: StreamPart { start, len: p.len },
+    match in_stream(p.id, body) {
+        Located::At(id) => match in_stream(p.start, body) {
+            Located::At(start) => match in_stream(end, body) {
+                Located::At(end) => StreamPayloadRead::Value(
+                    StreamPayload {
+                        id,
+                        bytes: StreamPart { start, len: p.len },
+                    },
+                    end,
+                ),
+                Located::Refused(m) => StreamPayloadRead::Refused(m),
+            },
+            Located::Refused(m) => StreamPayloadRead::Refused(m),
+        },
+        Located::Refused(m) => StreamPayloadRead::Refused(m),
     }
 }

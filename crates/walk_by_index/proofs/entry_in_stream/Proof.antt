@@ -23,11 +23,11 @@ part-entry-by-index-end c = let w = inside-within _ _ (sym (c .before .before .i
 returns-2 : tie.Need-returns-2
 unfolding entryInStream
 returns-2 c =
-    let a = c .before .before .before .before .before .before .before .before .before .before .before .args in
-    let inside = sym (c .before .before .before .before .before .before .before .before .before .is-inside .ensures) ∙ not-false _ (c .before .before .before .before .before .before .before .before .if1 .left) in
+    let a = c .before .before .before .before .before .before .before .before .before .before .args in
+    let inside = sym (c .before .before .before .before .before .before .before .before .is-inside .ensures) ∙ not-false _ (c .before .before .before .before .before .before .before .if1 .left) in
     let z : a .body .start .0 + a .body .len - a .body .start .0 ≡ a .body .len = omega arith in
-    let read = rw z at (sym (c .before .before .before .before .before .entry-by-index .ensures) ∙ ap peerEntryAnswer (c .before .before .before .peer .given .1)) in
-    rw (c .before .entry-places .ensures, c .in-stream .ensures) (from-got _ _ _ _ inside read)
+    let read = rw z at (sym (c .before .before .before .before .entry-by-index .ensures) ∙ ap peerEntryAnswer (c .before .before .peer .given .1)) in
+    c .entry-places .ensures ∙ from-got _ _ _ _ inside read
 
 returns-3 : tie.Need-returns-3
 unfolding entryInStream
@@ -38,4 +38,4 @@ returns-3 c =
     from-refused _ _ _ _ inside (rw z at (sym (c .before .before .before .entry-by-index .ensures) ∙ ap peerEntryAnswer (c .before .m .given .1)))
 
 pub entry-in-stream-spec : {M : Type 1} → statement M
-entry-in-stream-spec = tie.close (tie.spec (λ c κs. search needs) returns add-to (λ c. search needs) (λ c. search needs) part-entry-by-index-end (λ c κs. search needs) (λ c. search needs) (λ c κs. search needs) (λ c κs. search needs) (λ c. search needs) returns-2 returns-3)
+entry-in-stream-spec = tie.close (tie.spec (λ c κs. search needs) returns add-to (λ c. search needs) (λ c. search needs) part-entry-by-index-end (λ c κs. search needs) (λ c. search needs) (λ c κs. search needs) (λ c. search needs) returns-2 returns-3)

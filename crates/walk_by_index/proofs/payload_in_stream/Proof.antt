@@ -23,11 +23,11 @@ part-payload-by-index-end c = let w = inside-within _ _ (sym (c .before .before 
 returns-2 : tie.Need-returns-2
 unfolding payloadInStream
 returns-2 c =
-    let a = c .before .before .before .before .before .before .before .before .before .before .before .args in
-    let inside = sym (c .before .before .before .before .before .before .before .before .before .is-inside .ensures) ∙ not-false _ (c .before .before .before .before .before .before .before .before .if1 .left) in
+    let a = c .before .before .before .before .before .before .before .before .before .before .args in
+    let inside = sym (c .before .before .before .before .before .before .before .before .is-inside .ensures) ∙ not-false _ (c .before .before .before .before .before .before .before .if1 .left) in
     let z : a .body .start .0 + a .body .len - a .body .start .0 ≡ a .body .len = omega arith in
-    let read = rw z at (sym (c .before .before .before .before .before .payload-by-index .ensures) ∙ ap payloadByIndexAnswer (c .before .before .before .p .given .1)) in
-    rw (c .before .payload-places .ensures, c .in-stream .ensures) (from-got _ _ _ _ inside read)
+    let read = rw z at (sym (c .before .before .before .before .payload-by-index .ensures) ∙ ap payloadByIndexAnswer (c .before .before .p .given .1)) in
+    c .payload-places .ensures ∙ from-got _ _ _ _ inside read
 
 returns-3 : tie.Need-returns-3
 unfolding payloadInStream
@@ -38,4 +38,4 @@ returns-3 c =
     from-refused _ _ _ _ inside (rw z at (sym (c .before .before .before .payload-by-index .ensures) ∙ ap payloadByIndexAnswer (c .before .m .given .1)))
 
 pub payload-in-stream-spec : {M : Type 1} → statement M
-payload-in-stream-spec = tie.close (tie.spec (λ c κs. search needs) returns add-to (λ c. search needs) (λ c. search needs) part-payload-by-index-end (λ c κs. search needs) (λ c. search needs) (λ c κs. search needs) (λ c κs. search needs) (λ c. search needs) returns-2 returns-3)
+payload-in-stream-spec = tie.close (tie.spec (λ c κs. search needs) returns add-to (λ c. search needs) (λ c. search needs) part-payload-by-index-end (λ c κs. search needs) (λ c. search needs) (λ c κs. search needs) (λ c. search needs) returns-2 returns-3)
