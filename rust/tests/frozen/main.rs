@@ -23,7 +23,7 @@ fn every_case_has_its_answer() {
     let stdout = fs::read_to_string(format!("{folder}/stdout")).unwrap();
     let cases = cases(&stdin);
     assert_eq!(cases.len(), stdout.lines().count());
-    let mut compared = [0; 46];
+    let mut compared = [0; 49];
     for (i, (case, line)) in cases.into_iter().zip(stdout.lines()).enumerate() {
         let function = case.function;
         if is_public(function) {
@@ -31,7 +31,7 @@ fn every_case_has_its_answer() {
             compared[usize::from(function)] += u32::from(compare(i, case, line));
         }
     }
-    for function in (1..=45).filter(|function| is_public(*function)) {
+    for function in (1..=48).filter(|function| is_public(*function)) {
         assert!(compared[usize::from(function)] > 0, "function {function} has no case");
     }
 }
@@ -52,7 +52,10 @@ fn compare(i: usize, case: Case, line: &str) -> bool {
         },
         _ => {
             let expected = readers::expected(function, line);
-            assert_eq!(readers::answer(case), expected, "case {i}, function {function}");
+            match readers::answer(case) {
+                Some(answer) => assert_eq!(answer, expected, "case {i}, function {function}"),
+                None => return false,
+            }
         }
     }
     true

@@ -1,9 +1,10 @@
-//! The readers: of single values, 1 to 5, and of entries, handshakes, frames and message bodies, 18 to
-//! 32. An answer is numbers; the places among them are those of the parts that the crate lends out of
+//! The readers: of single values, 1 to 5, of entries, handshakes, frames and message bodies, 18 to 32,
+//! and by index with places in a session, 46 to 48. An answer is numbers; the places among them are those of the parts that the crate lends out of
 //! the bytes.
 
 use crate::cases::Case;
 use haspeljo::{decode, vlq, Entry, Error, Handshake, Message, MessageCode, Network};
+use haspeljo::{entry_in_stream, id_in_stream, payload_in_stream};
 use std::net::{IpAddr, SocketAddr};
 use std::ops::Range;
 
@@ -21,6 +22,9 @@ fn hidden(function: u8, numbers: &[u64]) -> &'static [usize] {
         (23, _) => &[1],
         // Of an empty list, the place where an item would be, and the next place.
         (27 | 28, [_, 0, _, first, _]) if *first > 0 => &[3, 4],
+        // All but places and lengths; where a payload ends.
+        (46, _) => &[0, 3, 4, 5, 8, 9, 10, 11, 12],
+        (48, _) => &[3],
         _ => &[],
     }
 }
@@ -37,8 +41,16 @@ pub fn expected(function: u8, answer: &str) -> Numbers {
     Ok((0..numbers.len()).filter(|i| !hidden.contains(i)).map(|i| numbers[i]).collect())
 }
 
-/// Arguments are taken and handed over in the order of the table.
-pub fn answer(mut case: Case) -> Numbers {
+/// Arguments are taken and handed over in the order of the table. None where a body has no range of
+/// `usize`.
+pub fn answer(case: Case) -> Option<Numbers> {
+    match case.function {
+        46..=48 => in_stream(case),
+        _ => Some(read(case)),
+    }
+}
+
+fn read(mut case: Case) -> Numbers {
     match case.function {
         1..=5 => value(case),
         18 => parse(case.input),
@@ -164,6 +176,28 @@ fn payload_by_index(index: usize, body: &[u8]) -> Numbers {
     let (id, bytes) = payloads.nth(index).ok_or(Error::Outside)?;
     let [start, length] = span(body, bytes);
     Ok(vec![place(body, id), start, length, start + length])
+}
+
+fn in_stream(mut case: Case) -> Option<Numbers> {
+    let start = case.size();
+    let body = start..start.checked_add(case.size())?;
+    let cap = if case.function == 46 { case.size() } else { 0 };
+    let index = case.size();
+    let bytes = case.input;
+    Some(match case.function {
+        46 => entry_in_stream(bytes, body, cap, index).map(|e| {
+            let features = [e.features.start as u64, e.features.end as u64];
+            [range(e.agent), range(e.name), features].concat()
+        }),
+        47 => id_in_stream(bytes, body, index).map(|id| vec![id.start as u64]),
+        _ => payload_in_stream(bytes, body, index)
+            .map(|p| [&[p.id.start as u64][..], &range(p.bytes)].concat()),
+    })
+}
+
+/// Place and length.
+fn range(range: Range<usize>) -> [u64; 2] {
+    [range.start as u64, range.len() as u64]
 }
 
 fn entry_numbers(bytes: &[u8], timestamp: u64, entry: Entry) -> Vec<u64> {
