@@ -1,4 +1,5 @@
 pub mod Results
+pub mod ResultsLaws
 pub mod Frames
 pub mod Configs
 pub mod Writers

@@ -1,3 +1,4 @@
 pub mod Answers
 pub mod Peer
 pub mod PeerLaws
+pub mod Cases
