@@ -12,4 +12,4 @@ reader-says leaves = (leaves .number, leaves .array)
 
 pub writer-says : {w : Writer} {at n : ℕ} {before after out last : List ℕ} → WriterLeaves w at n before after out last
     → (n ≡ writtenNumber (w .says out at)) × (after ≡ endAfter (w .says out at) before) × (last ≡ outputAfter (w .says out at) out at (w .bytes))
-writer-says leaves = (leaves .number, (leaves .array, leaves .output))
+writer-says leaves = (leaves .number, leaves .array, leaves .output)
