@@ -1,4 +1,4 @@
-// The functions that Rust and C link. Each returns 0, or document 01's refusal number with the lent array and output as they were.
+// The functions that Rust and C link. One that can refuse returns 0, or document 01's refusal number with the lent array and output as they were.
 // A slice passes as a pointer and a length, an array as a pointer.
 ghost use mathlib.Core.Path.{_≡_};
 ghost use Rattle.wire.specs.Reader.{byte, part, partOf, mapAnswer};

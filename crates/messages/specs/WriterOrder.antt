@@ -1,6 +1,7 @@
--- What every writer asks, in order, each question with its number if "no" (document 01, "Questions", Writers). Each is
--- asked over all values written before the next one is, and the first one answered "no" gives the refusal. What the
--- contracts of the writers cite is the answer to these lists.
+-- What the writers of entries, handshakes, frames and messages ask, in order, each question with its number if "no"
+-- (document 01, "Questions", Writers). Each is asked over all values written before the next one is, and the first one
+-- answered "no" gives the refusal. What the contracts of these writers cite is the answer to these lists. The writer of
+-- all rows of a table, on which that of Peers stands, has its cases in handshake_entry_write.
 use Prim.Native.Nat.{ℕ, _+_}
 use mathlib.Core.Bool.{false}
 use mathlib.Core.List.{List, [], _∷_, _++_, map}
