@@ -5,5 +5,5 @@ use std::env;
 fn main() {
     println!("cargo:rerun-if-changed=build.rs");
     println!("cargo:rustc-link-lib=b2");
-    println!("cargo:rustc-env=EXPORTS_ARCHIVE={}", env::var("DEP_EXPORTS_ARCHIVE").unwrap());
+    println!("cargo:rustc-env=HASPELJO_ARCHIVE={}", env::var("DEP_HASPELJO_ARCHIVE").unwrap());
 }

@@ -52,7 +52,7 @@ int main(void)
         printf("long\n");
         return 0;
     }
-    while (haspeljo_step(s, n, MAINNET, CAP, at, step) == 0 && print_step(s, n, step))
+    while (haspeljo_step(s, n, at, MAINNET, CAP, step) == 0 && print_step(s, n, step))
         at = step[2];
     return 0;
 }

@@ -1,4 +1,4 @@
-/* The functions of libexports.a, which read and write Ergo peer sessions.
+/* The functions of libhaspeljo.a, which read and write Ergo peer sessions.
  *
  * A slice passes as a pointer and its length, and the pointer is never null, not even for no bytes. An output and a result array r overlap no
  * other argument. Unless a line says otherwise, a function returns 0 and fills r, or returns a refusal number and leaves r and the output as they
@@ -154,14 +154,14 @@ uint8_t haspeljo_rest_api_url(const uint8_t *s, size_t n, size_t at, uint64_t r[
 /* Frames and messages */
 
 /* The frame at a place. r: its code, its body's place and length, the next place. Refuses 12, 5 to 9. */
-uint8_t haspeljo_decode(const uint8_t *s, size_t n, uint8_t mainnet, size_t at, uint64_t r[4]);
+uint8_t haspeljo_decode(const uint8_t *s, size_t n, size_t at, uint8_t mainnet, uint64_t r[4]);
 
 /* The message of a frame's code and body. r: type byte, count, how many entries have a bogus address, the place of the first id, payload or entry
  * in the body, each 0 where the message has none; the next place. Refuses 1 to 4, 10, 11. */
-uint8_t haspeljo_from_frame(uint8_t code, const uint8_t *body, size_t n, size_t cap, uint8_t mainnet, uint64_t r[5]);
+uint8_t haspeljo_from_frame(const uint8_t *body, size_t n, uint8_t mainnet, size_t cap, uint8_t code, uint64_t r[5]);
 
 /* A Peers body. r: as haspeljo_from_frame. Refuses 1 to 4, 10. */
-uint8_t haspeljo_parse_peers_body(const uint8_t *body, size_t n, size_t cap, uint8_t mainnet, uint64_t r[5]);
+uint8_t haspeljo_parse_peers_body(const uint8_t *body, size_t n, uint8_t mainnet, size_t cap, uint64_t r[5]);
 
 /* An entry of a Peers body, by index; each call reads the body anew. r: as haspeljo_parse_peer_entry. Refuses 1 to 4, 10, 12. */
 uint8_t haspeljo_entry_by_index(const uint8_t *body, size_t n, size_t cap, size_t index, uint64_t r[15]);
@@ -186,7 +186,7 @@ uint8_t haspeljo_payload_by_index(const uint8_t *body, size_t n, size_t index, u
  * haspeljo_from_frame has them, a zero;
  * HASPELJO_STEP_STOP, start of the item, layer, refusal number, seven zeros.
  * Refuses 12. */
-uint8_t haspeljo_step(const uint8_t *s, size_t n, uint8_t mainnet, size_t cap, size_t at, uint64_t r[11]);
+uint8_t haspeljo_step(const uint8_t *s, size_t n, size_t at, uint8_t mainnet, size_t cap, uint64_t r[11]);
 
 /* By index from a message of a session: start and length are its body's, as haspeljo_step gives them, and every place in r is a place in the
  * session. Each call reads the body anew. */
@@ -210,12 +210,12 @@ uint8_t haspeljo_payload_in_stream(const uint8_t *s, size_t n, size_t start, siz
  * L - 4 bytes, port, first feature's row, how many. */
 
 /* The entry in row index. Refuses 16, 12, 13, 4, 15, 3, 14. */
-uint8_t haspeljo_write_entry(uint8_t *out, size_t n, size_t at, const uint32_t *entries, size_t entries_n, const uint32_t *features,
-    size_t features_n, const uint8_t *buffer, size_t buffer_n, size_t index, uint64_t r[1]);
+uint8_t haspeljo_write_entry(uint8_t *out, size_t n, size_t at, size_t index, const uint32_t *entries, size_t entries_n,
+    const uint32_t *features, size_t features_n, const uint8_t *buffer, size_t buffer_n, uint64_t r[1]);
 
 /* A handshake: a timestamp with the entry in row index. Refuses 16, 12, 13, 4, 15, 3, 14. */
-uint8_t haspeljo_write_handshake(uint8_t *out, size_t n, size_t at, uint64_t timestamp, const uint32_t *entries, size_t entries_n,
-    const uint32_t *features, size_t features_n, const uint8_t *buffer, size_t buffer_n, size_t index, uint64_t r[1]);
+uint8_t haspeljo_write_handshake(uint8_t *out, size_t n, size_t at, uint64_t timestamp, size_t index, const uint32_t *entries,
+    size_t entries_n, const uint32_t *features, size_t features_n, const uint8_t *buffer, size_t buffer_n, uint64_t r[1]);
 
 /* A handshake with the features Mode and Session. light is 0 for a full node, verifying 0 for one that does not verify. kind, high, low and port
  * are the address as haspeljo_parse gives it: 16 for a kind other than 0, 4 and 6, and of IPv4 for a high above 2^32 - 1 or a low other than 0;

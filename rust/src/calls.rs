@@ -132,12 +132,12 @@ pub fn rest_api_url(s: &[u8], at: usize) -> Result<[u64; 4], Error> {
 }
 
 pub fn decode(s: &[u8], network: Network, at: usize) -> Result<[u64; 4], Error> {
-    call(|r| unsafe { haspeljo_decode(s.as_ptr(), s.len(), mainnet(network), at, r) })
+    call(|r| unsafe { haspeljo_decode(s.as_ptr(), s.len(), at, mainnet(network), r) })
 }
 
 pub fn from_frame(code: u8, body: &[u8], cap: usize, network: Network) -> Result<[u64; 5], Error> {
     call(|r| unsafe {
-        haspeljo_from_frame(code, body.as_ptr(), body.len(), cap, mainnet(network), r)
+        haspeljo_from_frame(body.as_ptr(), body.len(), mainnet(network), cap, code, r)
     })
 }
 
@@ -146,7 +146,7 @@ pub fn read_payload(body: &[u8], at: usize, total: usize) -> Result<[u64; 5], Er
 }
 
 pub fn step(s: &[u8], network: Network, cap: usize, at: usize) -> Result<[u64; 11], Error> {
-    call(|r| unsafe { haspeljo_step(s.as_ptr(), s.len(), mainnet(network), cap, at, r) })
+    call(|r| unsafe { haspeljo_step(s.as_ptr(), s.len(), at, mainnet(network), cap, r) })
 }
 
 /// The place and length of a body that a caller names; 12 for a range that ends before it starts.
@@ -190,13 +190,13 @@ pub fn write_entry(out: &mut [u8], at: usize, lent: Lent, index: usize) -> Resul
             out.as_mut_ptr(),
             out.len(),
             at,
+            index,
             entries.as_ptr(),
             entries.len(),
             features.as_ptr(),
             features.len(),
             buffer.as_ptr(),
             buffer.len(),
-            index,
             r,
         )
     })
@@ -216,13 +216,13 @@ pub fn write_handshake(
             out.len(),
             at,
             timestamp,
+            index,
             entries.as_ptr(),
             entries.len(),
             features.as_ptr(),
             features.len(),
             buffer.as_ptr(),
             buffer.len(),
-            index,
             r,
         )
     })

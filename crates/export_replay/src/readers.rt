@@ -3,10 +3,10 @@
 use crate::input::size;
 use crate::input::small;
 use crate::print;
-use exports::bodies;
-use exports::frames;
-use exports::handshakes;
-use exports::sessions;
+use haspeljo::bodies;
+use haspeljo::frames;
+use haspeljo::handshakes;
+use haspeljo::sessions;
 
 // The functions by the length of their arrays; a is the first number.
 pub(crate) fn answer(function: u8, s: &[u8], bytes: &[u8]) {
@@ -35,9 +35,9 @@ fn one(function: u8, s: &[u8], bytes: &[u8], a: usize) {
 fn two(function: u8, s: &[u8], bytes: &[u8], a: usize) {
     let mut r = [7u64; 2];
     let m = match function {
-        1 => exports::haspeljo_read_byte(bytes, a, &mut r),
-        2 => exports::haspeljo_read_vlq(bytes, a, &mut r),
-        3 => exports::haspeljo_read_vlq_length(bytes, a, &mut r),
+        1 => haspeljo::haspeljo_read_byte(bytes, a, &mut r),
+        2 => haspeljo::haspeljo_read_vlq(bytes, a, &mut r),
+        3 => haspeljo::haspeljo_read_vlq_length(bytes, a, &mut r),
         23 => handshakes::haspeljo_validate_peer(bytes, small(s, 0), &mut r),
         _ => handshakes::haspeljo_validate_entry(bytes, a, small(s, 8), &mut r),
     };
@@ -47,8 +47,8 @@ fn two(function: u8, s: &[u8], bytes: &[u8], a: usize) {
 fn three(function: u8, s: &[u8], bytes: &[u8], a: usize) {
     let mut r = [7u64; 3];
     let m = match function {
-        4 => exports::haspeljo_read_short_string(bytes, a, &mut r),
-        _ => exports::haspeljo_read_part(bytes, a, size(s, 8), &mut r),
+        4 => haspeljo::haspeljo_read_short_string(bytes, a, &mut r),
+        _ => haspeljo::haspeljo_read_part(bytes, a, size(s, 8), &mut r),
     };
     result(m, three_numbers(&r));
 }
@@ -59,7 +59,7 @@ fn four(function: u8, s: &[u8], bytes: &[u8], a: usize) {
         21 => handshakes::haspeljo_read_feature(bytes, a, &mut r),
         22 => handshakes::haspeljo_feature_by_index(bytes, a, size(s, 8), &mut r),
         25 => handshakes::haspeljo_rest_api_url(bytes, a, &mut r),
-        26 => frames::haspeljo_decode(bytes, small(s, 8), a, &mut r),
+        26 => frames::haspeljo_decode(bytes, a, small(s, 8), &mut r),
         32 => bodies::haspeljo_payload_by_index(bytes, a, &mut r),
         _ => sessions::haspeljo_payload_in_stream(bytes, a, size(s, 8), size(s, 16), &mut r),
     };
@@ -69,8 +69,8 @@ fn four(function: u8, s: &[u8], bytes: &[u8], a: usize) {
 fn five(function: u8, s: &[u8], bytes: &[u8], a: usize) {
     let mut r = [7u64; 5];
     let m = match function {
-        27 => bodies::haspeljo_from_frame(small(s, 16), bytes, a, small(s, 8), &mut r),
-        28 => bodies::haspeljo_parse_peers_body(bytes, a, small(s, 8), &mut r),
+        27 => bodies::haspeljo_from_frame(bytes, small(s, 8), a, small(s, 16), &mut r),
+        28 => bodies::haspeljo_parse_peers_body(bytes, small(s, 8), a, &mut r),
         _ => bodies::haspeljo_read_payload(bytes, a, size(s, 8), &mut r),
     };
     result(m, five_numbers(&r));
@@ -78,7 +78,7 @@ fn five(function: u8, s: &[u8], bytes: &[u8], a: usize) {
 
 fn step(s: &[u8], bytes: &[u8], a: usize) {
     let mut r = [7u64; 11];
-    let m = sessions::haspeljo_step(bytes, small(s, 8), size(s, 16), a, &mut r);
+    let m = sessions::haspeljo_step(bytes, a, small(s, 8), size(s, 16), &mut r);
     result(m, eleven_numbers(&r));
 }
 

@@ -19,23 +19,23 @@ pub(crate) fn answer(function: u8, s: &[u8]) {
 
 fn encoded(function: u8, x: u64) -> u64 {
     if function == 9 {
-        exports::haspeljo_zigzag_encode(signed_32(low_32(x))) as u64
+        haspeljo::haspeljo_zigzag_encode(signed_32(low_32(x))) as u64
     } else {
-        exports::haspeljo_zigzag_encode_i64(signed_64(x))
+        haspeljo::haspeljo_zigzag_encode_i64(signed_64(x))
     }
 }
 
 fn decoded(function: u8, x: u64) -> i64 {
     if function == 10 {
-        widen(exports::haspeljo_zigzag_decode(low_32(x)))
+        widen(haspeljo::haspeljo_zigzag_decode(low_32(x)))
     } else {
-        exports::haspeljo_zigzag_decode_i64(x)
+        haspeljo::haspeljo_zigzag_decode_i64(x)
     }
 }
 
 fn test(function: u8, s: &[u8]) -> u8 {
     match function {
-        13 => exports::haspeljo_is_utf8(s),
+        13 => haspeljo::haspeljo_is_utf8(s),
         14 => is_bogus_v4(s),
         _ => is_bogus_v6(s),
     }
@@ -43,23 +43,23 @@ fn test(function: u8, s: &[u8]) -> u8 {
 
 fn is_bogus_v4(s: &[u8]) -> u8 {
     let ip = low_32(number(s, 0));
-    exports::haspeljo_is_bogus_v4(ip, low_16(number(s, 8)), small(s, 16))
+    haspeljo::haspeljo_is_bogus_v4(ip, low_16(number(s, 8)), small(s, 16))
 }
 
 fn is_bogus_v6(s: &[u8]) -> u8 {
     let port = low_16(number(s, 16));
-    exports::haspeljo_is_bogus_v6(number(s, 0), number(s, 8), port, small(s, 24))
+    haspeljo::haspeljo_is_bogus_v6(number(s, 0), number(s, 8), port, small(s, 24))
 }
 
 fn digest(s: &[u8]) {
     let mut r = [0u8; 32];
-    exports::haspeljo_blake2b256(s, &mut r);
+    haspeljo::haspeljo_blake2b256(s, &mut r);
     print::bytes(digest_bytes(&r));
 }
 
 fn check(s: &[u8]) {
     let mut r = [0u8; 4];
-    exports::haspeljo_frame_check(s, &mut r);
+    haspeljo::haspeljo_frame_check(s, &mut r);
     print::bytes(check_bytes(&r));
 }
 

@@ -11,7 +11,7 @@ use crate::input::size;
 use crate::input::small;
 use crate::print;
 use crate::tables;
-use exports::writers;
+use haspeljo::writers;
 
 // The largest output of a case.
 const MAX_ROOM: usize = 640;
@@ -109,8 +109,8 @@ fn lent_entries(
     let a = size(s, 16);
     let b = number(s, 24);
     match function {
-        35 => writers::haspeljo_write_entry(out, at, entries, features, buffer, a, r),
-        36 => writers::haspeljo_write_handshake(out, at, b, entries, features, buffer, a, r),
+        35 => writers::haspeljo_write_entry(out, at, a, entries, features, buffer, r),
+        36 => writers::haspeljo_write_handshake(out, at, b, a, entries, features, buffer, r),
         _ => {
             let mainnet = small(s, 16);
             writers::haspeljo_write_peers(

@@ -22,13 +22,13 @@ pub fn put_handshake(
             out.len(),
             at,
             timestamp,
+            row,
             entries.as_ptr(),
             entries.len(),
             features.as_ptr(),
             features.len(),
             buffer.as_ptr(),
             buffer.len(),
-            row,
             r,
         )
     }

@@ -10,5 +10,5 @@ pub fn decode(s: &[u8], at: usize, mainnet: u8) -> Answer {
 
 /// A frame's numbers.
 pub fn decoded(s: &[u8], at: usize, mainnet: u8) -> Result<[u64; 4], Answer> {
-    call(|r| unsafe { haspeljo_decode(s.as_ptr(), s.len(), mainnet, at, r) })
+    call(|r| unsafe { haspeljo_decode(s.as_ptr(), s.len(), at, mainnet, r) })
 }

@@ -20,12 +20,12 @@ pub fn from_frame(code: u8, body: &[u8], cap: usize, mainnet: u8) -> Answer {
 
 /// A message's numbers.
 pub fn opened(code: u8, body: &[u8], cap: usize, mainnet: u8) -> Result<[u64; 5], Answer> {
-    call(|r| unsafe { haspeljo_from_frame(code, body.as_ptr(), body.len(), cap, mainnet, r) })
+    call(|r| unsafe { haspeljo_from_frame(body.as_ptr(), body.len(), mainnet, cap, code, r) })
 }
 
 pub fn read_peers_body(body: &[u8], cap: usize, mainnet: u8) -> Answer {
     let result =
-        call(|r| unsafe { haspeljo_parse_peers_body(body.as_ptr(), body.len(), cap, mainnet, r) });
+        call(|r| unsafe { haspeljo_parse_peers_body(body.as_ptr(), body.len(), mainnet, cap, r) });
     reached(result, |[kind, count, bogus, first, next]| {
         let entries = peers(body, count, first, next);
         (entries.map(|entries| Value::counted([kind, count, bogus, first], entries)), next)

@@ -32,7 +32,7 @@ pub fn items(s: &[u8], mainnet: u8, cap: usize) -> u64 {
     let (mut count, mut at) = (0, 0);
     let mut r = [0; 11];
     loop {
-        let number = unsafe { haspeljo_step(s.as_ptr(), s.len(), mainnet, cap, at, &mut r) };
+        let number = unsafe { haspeljo_step(s.as_ptr(), s.len(), at, mainnet, cap, &mut r) };
         match (number, r[0]) {
             (0, HANDSHAKE | MESSAGE) => at = r[2] as usize,
             _ => return count,
@@ -64,7 +64,7 @@ pub fn walk(s: &[u8], mainnet: u8, cap: usize) -> Answer {
 
 /// A step's numbers.
 pub fn stepped(s: &[u8], at: usize, mainnet: u8, cap: usize) -> Result<[u64; 11], Answer> {
-    call(|r| unsafe { haspeljo_step(s.as_ptr(), s.len(), mainnet, cap, at, r) })
+    call(|r| unsafe { haspeljo_step(s.as_ptr(), s.len(), at, mainnet, cap, r) })
 }
 
 fn opened(s: &[u8], at: usize, mainnet: u8, cap: usize) -> Result<Opened, Answer> {

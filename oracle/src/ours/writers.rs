@@ -119,13 +119,13 @@ pub fn write_entry(case: &Case, out: &mut [u8], at: usize, r: &mut [u64; 1]) -> 
             out.as_mut_ptr(),
             out.len(),
             at,
+            case.place(2),
             entries.as_ptr(),
             entries.len(),
             features.as_ptr(),
             features.len(),
             buffer.as_ptr(),
             buffer.len(),
-            case.place(2),
             r,
         )
     }

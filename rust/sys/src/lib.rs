@@ -73,20 +73,20 @@ extern "C" {
     ) -> u8;
     pub fn haspeljo_rest_api_url(s: *const u8, n: usize, at: usize, r: *mut [u64; 4]) -> u8;
 
-    pub fn haspeljo_decode(s: *const u8, n: usize, mainnet: u8, at: usize, r: *mut [u64; 4]) -> u8;
+    pub fn haspeljo_decode(s: *const u8, n: usize, at: usize, mainnet: u8, r: *mut [u64; 4]) -> u8;
     pub fn haspeljo_from_frame(
-        code: u8,
         body: *const u8,
         n: usize,
-        cap: usize,
         mainnet: u8,
+        cap: usize,
+        code: u8,
         r: *mut [u64; 5],
     ) -> u8;
     pub fn haspeljo_parse_peers_body(
         body: *const u8,
         n: usize,
-        cap: usize,
         mainnet: u8,
+        cap: usize,
         r: *mut [u64; 5],
     ) -> u8;
     pub fn haspeljo_entry_by_index(
@@ -114,9 +114,9 @@ extern "C" {
     pub fn haspeljo_step(
         s: *const u8,
         n: usize,
+        at: usize,
         mainnet: u8,
         cap: usize,
-        at: usize,
         r: *mut [u64; 11],
     ) -> u8;
     pub fn haspeljo_entry_in_stream(
@@ -149,13 +149,13 @@ extern "C" {
         out: *mut u8,
         n: usize,
         at: usize,
+        index: usize,
         entries: *const u32,
         entries_n: usize,
         features: *const u32,
         features_n: usize,
         buffer: *const u8,
         buffer_n: usize,
-        index: usize,
         r: *mut [u64; 1],
     ) -> u8;
     pub fn haspeljo_write_handshake(
@@ -163,13 +163,13 @@ extern "C" {
         n: usize,
         at: usize,
         timestamp: u64,
+        index: usize,
         entries: *const u32,
         entries_n: usize,
         features: *const u32,
         features_n: usize,
         buffer: *const u8,
         buffer_n: usize,
-        index: usize,
         r: *mut [u64; 1],
     ) -> u8;
     pub fn haspeljo_build(

@@ -79,7 +79,7 @@ const ALLOCATING: [&str; 7] = ["free", "mmap", "mmap64", "munmap", "mremap", "br
 
 /// Prints the symbols that the archive leaves undefined, and refuses one that allocates.
 pub fn symbols() -> Result<(), String> {
-    let archive = env!("EXPORTS_ARCHIVE");
+    let archive = env!("HASPELJO_ARCHIVE");
     let Ok(output) = Command::new("nm").args(["-u", archive]).output() else {
         println!("undefined symbols: nm is missing");
         return Ok(());
