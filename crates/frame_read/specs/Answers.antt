@@ -1,5 +1,7 @@
 -- What each answer of the code means, and what the code gives of a frame: its code, and where its body stands in the stream.
-use lib.ListN.{length}
+use Prim.Native.Nat.{ℕ}
+use mathlib.Core.List.{List}
+use lib.ListN.{length, take, drop}
 use Rattle.wire.specs.Reader.{Answer, got, refused, Segment}
 use Rattle.frame.specs.Frame.{BodyFrame}
 use Rattle.frame_read.specs.declared.StreamPart.{StreamPart}
@@ -16,6 +18,10 @@ streamPartOf g = record { start = record { 0 = g .start }; len = length (g .byte
 
 abbrev pub frameOf : BodyFrame → Frame
 frameOf f = record { code = f .code; body = streamPartOf (f .body) }
+
+-- the bytes that a part of the stream s names
+abbrev pub partIn : List ℕ → StreamPart → List ℕ
+partIn s p = take (p .len) (drop (p .start .0) s)
 
 -- ---- what an answer means
 

@@ -28,9 +28,10 @@ use Rattle.handshake_build.specs.declared.Config.{Config}
 use Rattle.handshake_build.specs.Parts.{configOf}
 use Rattle.frame_read.specs.declared.Frame.{Frame}
 use Rattle.export_arrays.specs.Networks.{networkOf}
+use Rattle.export_config.specs.Configs.{isSet, modeOf, addressFrom, addressNumbers}
 use Rattle.haspeljo.specs.Results.{numberOf, arrayAfter, valueNext, partNext, writtenNumber, endAfter, bit}
 use Rattle.haspeljo.specs.Frames.{frameNext}
-use Rattle.haspeljo.specs.Configs.{isSet, modeOf, addressFrom, addressNumbers, builtFrom, builtFromWritten}
+use Rattle.haspeljo.specs.Configs.{builtFrom, builtFromWritten}
 
 -- what is computed, and what it is by hand
 pub record Case (A : Type 0) : Type 0 where
@@ -63,57 +64,18 @@ config network mode verifying address =
 unfoldable pub configs : List (Case Config)
 configs =
     case (from 0 0 0 0 0 0) (config Testnet Full false None)
-    ∷ case (from 0 0 1 0 0 0) (config Testnet Full true None)
-    ∷ case (from 0 1 0 0 0 0) (config Testnet Light false None)
-    ∷ case (from 0 1 1 0 0 0) (config Testnet Light true None)
     ∷ case (from 1 0 0 0 0 0) (config Mainnet Full false None)
-    ∷ case (from 1 0 1 0 0 0) (config Mainnet Full true None)
-    ∷ case (from 1 1 0 0 0 0) (config Mainnet Light false None)
     ∷ case (from 1 1 1 0 0 0) (config Mainnet Light true None)
     -- any number but 0 is as 1
     ∷ case (from 2 0 0 0 0 0) (config Mainnet Full false None)
     ∷ case (from 255 0 0 0 0 0) (config Mainnet Full false None)
-    ∷ case (from 0 2 0 0 0 0) (config Testnet Light false None)
-    ∷ case (from 0 255 0 0 0 0) (config Testnet Light false None)
-    ∷ case (from 0 0 2 0 0 0) (config Testnet Full true None)
-    ∷ case (from 0 0 255 0 0 0) (config Testnet Full true None)
     -- the address
-    ∷ case (from 0 0 0 0 28 29) (config Testnet Full false None)
-    ∷ case (from 0 0 0 4 28 0) (config Testnet Full false (V4 28 25))
     ∷ case (from 0 0 0 6 28 29) (config Testnet Full false (V6 28 29 25))
     ∷ []
 
 pub all-configs : map (λ (c : Case Config). c .computed) configs ≡ map (λ (c : Case Config). c .is) configs
 unfolding configs networkOf modeOf isSet addressFrom
 all-configs = refl
-
--- ---- the numbers of an address
-
-unfoldable pub addresses : List (Case Bool)
-addresses =
-    -- the kind
-    case (addressNumbers 0 0 0) true
-    ∷ case (addressNumbers 4 0 0) true
-    ∷ case (addressNumbers 6 0 0) true
-    ∷ case (addressNumbers 1 0 0) false
-    ∷ case (addressNumbers 2 0 0) false
-    ∷ case (addressNumbers 3 0 0) false
-    ∷ case (addressNumbers 5 0 0) false
-    ∷ case (addressNumbers 7 0 0) false
-    ∷ case (addressNumbers 255 0 0) false
-    -- IPv4: 32 bits, no low half
-    ∷ case (addressNumbers 4 0xffff_ffff 0) true
-    ∷ case (addressNumbers 4 0x1_0000_0000 0) false
-    ∷ case (addressNumbers 4 0xffff_ffff 1) false
-    ∷ case (addressNumbers 4 0 1) false
-    -- IPv6 and no address: any numbers
-    ∷ case (addressNumbers 6 0xffff_ffff_ffff_ffff 0xffff_ffff_ffff_ffff) true
-    ∷ case (addressNumbers 0 0xffff_ffff_ffff_ffff 0xffff_ffff_ffff_ffff) true
-    ∷ []
-
-pub all-addresses : map (λ (c : Case Bool). c .computed) addresses ≡ map (λ (c : Case Bool). c .is) addresses
-unfolding addresses addressNumbers
-all-addresses = refl
 
 -- ---- the order of `builtFromWritten`
 

@@ -1,51 +1,19 @@
--- What `build` is given, from numbers.
-use Prim.Native.Nat.{ℕ, zero, suc, _^_}
-use mathlib.Core.Bool.{Bool, true, false, cond, _||_, _&&_}
+-- What `build` is given, from numbers, and what is then said.
+use Prim.Native.Nat.{ℕ}
 use mathlib.Core.List.{List, [], _∷_}
-use lib.Dec.{eqb, ltb}
 use lib.IntN.{ℤ}
 use Rattle.wire.specs.Output.{ask, written}
 use Rattle.wire.specs.declared.Written.{Written}
-use Rattle.types.specs.declared.ProxyMode.{ProxyMode}
-use Rattle.types.specs.declared.ProxyMode.the-variants.{Full, Light}
-use Rattle.types.specs.declared.Address.{Address}
-use Rattle.types.specs.declared.Address.the-variants.{None, V4, V6}
 use Rattle.handshake.specs.Value.{handshakeBytes, entriesAsked}
 use Rattle.handshake.specs.Writes.{built}
 use Rattle.handshake.specs.Writes as writes
 use Rattle.handshake_build.specs.declared.Config.{Config}
 use Rattle.export_arrays.specs.Networks.{networkOf}
-
-unfoldable pub isSet : ℕ → Bool
-isSet zero = false
-isSet (suc n) = true
-
--- 0 is a full node
-unfoldable pub modeOf : ℕ → ProxyMode
-modeOf zero = Full
-modeOf (suc n) = Light
-
--- 4 or 6, with the address's number, of IPv6 its two halves; otherwise none
-unfoldable pub addressFrom : ℕ → ℕ → ℕ → ℕ → Address
-addressFrom kind high low port = cond (eqb kind 4) (V4 high port) (cond (eqb kind 6) (V6 high low port) None)
-
--- 16: is the kind 0, 6, or 4 with a number below 2^32 and no low half? Beside no address the numbers are not looked at.
-unfoldable pub addressNumbers : ℕ → ℕ → ℕ → Bool
-addressNumbers kind high low = eqb kind 0 || eqb kind 6 || eqb kind 4 && ltb high (2 ^ 32) && eqb low 0
+use Rattle.export_config.specs.Configs.{addressNumbers, configFrom}
 
 abbrev pub builtFrom : ℕ → ℕ → ℕ → ℕ → ℤ → ℕ → ℕ → ℕ → ℕ → ℕ → ℕ → ℕ → ℕ → ℤ → Config
 builtFrom mainnet light stateType verifying blocksToKeep major minor patch kind high low port timestamp session =
-    record {
-      network = networkOf mainnet;
-      mode = modeOf light;
-      «state_type_id» = stateType;
-      verifying = isSet verifying;
-      «blocks_to_keep» = blocksToKeep;
-      version = record { major = major; minor = minor; patch = patch };
-      address = addressFrom kind high low port;
-      timestamp = timestamp;
-      session = session;
-    }
+    configFrom (networkOf mainnet) light stateType verifying blocksToKeep major minor patch kind high low port timestamp session
 
 -- what is said of numbers: 16 of those of the address, then all that `build` asks
 unfoldable pub builtFromWritten : ℕ → ℕ → ℕ → writes.Config → List ℕ → ℕ → Written

@@ -1,17 +1,13 @@
 // Writers for Rust and C, each from a place of a lent output. r is the place after what was written.
-ghost use mathlib.Core.Bool.{true};
 ghost use mathlib.Core.Path.{_≡_};
 ghost use Rattle.handshake.specs.Tables.{tables};
 ghost use Rattle.handshake_build.specs.Parts.{configOf};
 ghost use Rattle.messages.specs.Writes.{writeGetPeers, writePeers, writeModifierRequest, writeModifierResponse, writeInv, writeSyncInfo, writeUnknown};
 ghost use Rattle.export_arrays.specs.Networks.{networkOf};
 ghost use Rattle.haspeljo.specs.Results.{writtenNumber, endAfter, WriterLeaves};
-ghost use Rattle.haspeljo.specs.Configs.{isSet, modeOf, addressFrom, addressNumbers, builtFrom};
+ghost use Rattle.haspeljo.specs.Configs.{builtFrom};
 ghost use Rattle.haspeljo.specs.Writers.{vlqWriter, shortStringWriter, partWriter, entryWriter, handshakeWriter, frameWriter, messageWriter, buildWriter};
-use handshake_build::Config;
-use types::Address;
-use types::ProxyMode;
-use types::Version;
+use export_config::ConfigRead;
 use wire::Written;
 
 // A VLQ, the shortest.
@@ -282,27 +278,28 @@ pub extern "C" fn haspeljo_build(
         (now (agent .entry)) (now (name .entry)))) at n
         (now (r .entry)) (now (r .exit)) (now (out .entry)) (now (out .exit)) ⌝ }
 {
-    if !is_address(kind, high, low) {
-        return 16;
-    }
-    let network = crate::network_of(mainnet);
-    let mode = mode_of(light);
-    let verifies = is_set(verifying);
-    let version = Version::new(major, minor, patch);
-    let address = address_from(kind, high, low, port);
-    let config = Config {
-        network,
-        mode,
+    match export_config::config_from(
+        crate::network_of(mainnet),
+        light,
         state_type_id,
-        verifying: verifies,
+        verifying,
         blocks_to_keep,
-        version,
-        address,
+        major,
+        minor,
+        patch,
+        kind,
+        high,
+        low,
+        port,
         timestamp,
         session,
-    };
-    let w = handshake_build::build(out, at, config, agent, name);
-    written_result(w, r)
+    ) {
+        ConfigRead::Value(config) => {
+            let w = handshake_build::build(out, at, config, agent, name);
+            written_result(w, r)
+        }
+        ConfigRead::Refused(m) => m,
+    }
 }
 
 // 0, with the end in r; or the refusal number, with r as it was.
@@ -317,40 +314,4 @@ fn written_result(w: Written, r: &mut [u64; 1]) -> u8
         }
         Written::Refused(m) => m,
     }
-}
-
-fn is_set(n: u8) -> bool
-    ensures { λ r. ⌜ r ≡ isSet n ⌝ }
-{
-    if n == 0 { false } else { true }
-}
-
-fn mode_of(light: u8) -> ProxyMode
-    ensures { λ r. ⌜ r ≡ modeOf light ⌝ }
-{
-    if light == 0 {
-        ProxyMode::Full
-    } else {
-        ProxyMode::Light
-    }
-}
-
-// Is it an address as haspeljo_parse gives it, or none?
-fn is_address(kind: u8, high: u64, low: u64) -> bool
-    ensures { λ r. ⌜ r ≡ addressNumbers kind high low ⌝ }
-{
-    (kind == 0) | (kind == 6) | (kind == 4) & (high < 0x1_0000_0000) & (low == 0)
-}
-
-fn address_from(kind: u8, high: u64, low: u64, port: u16) -> Address
-    requires { ⌜ addressNumbers kind high low ≡ true ⌝ }
-    ensures { λ r. ⌜ r ≡ addressFrom kind high low port ⌝ }
-{
-    if kind == 4 {
-        return Address::V4(high as u32, port);
-    }
-    if kind == 6 {
-        return Address::V6(high, low, port);
-    }
-    Address::None
 }

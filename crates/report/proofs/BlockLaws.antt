@@ -16,8 +16,9 @@ use Rattle.walk_read.specs.declared.StepRead.{StepRead}
 use Rattle.walk_read.specs.declared.StepRead.the-variants as StepReads
 use Rattle.walk_read.specs.Steps.{streamPlace, stepOf}
 use Rattle.report_lines.specs.StepLines.{lineOf}
-use Rattle.report.specs.declared.Next.{Next}
-use Rattle.report.specs.Report.{nextOf, lineAt, nextAt, Block, blockAt, blockNext, reportText}
+use Rattle.report_lines.specs.NextLines.{nextOf, lineAt, nextAt}
+use Rattle.report_lines.specs.declared.Next.{Next}
+use Rattle.report.specs.Report.{Block, blockAt, blockNext, reportText}
 use Rattle.report.specs.ReportLaws.{linesFrom, textFrom, blockFrom, OneLine, one-line, text-all, block-full, lays, lays-some}
 
 next-len : (r : StepRead) (at : StreamPlace) (n : ℕ) → nextOf r at n .len ≡ length (lineOf r n)
@@ -123,15 +124,16 @@ module _ (network : Network) (cap : ℕ) (s : List ℕ) where
   print-start = record { counted = rw (text-all network cap s) (omega arith); fits = omega arith }
 
   -- a turn prints one block
-  pub print-turn : {at printed total : ℕ} {more : Bool} (next : Next) → next ≡ blockNext (blockAt network cap s 65536 at) → more ≡ true → Printed at more printed
+  pub print-turn : {at printed total : ℕ} {more : Bool} (next : Next) (room : ℕ) → room ≡ 65536 → next ≡ blockNext (blockAt network cap s room at) → more ≡ true
+      → Printed at more printed
       → total ≡ (printed + next .len) % 2 ^ 64
       → Printed (next .at .0) (next .more) total × (linesFrom network cap s (next .at .0) (next .more) < linesFrom network cap s at more)
-  print-turn {at} next e m p t =
-      let b : Block = blockAt network cap s 65536 at in
-      let l = ap length (lays network cap s 65536 at .told) ∙ length-append (b .text) (textFrom network cap s (b .at) (b .more)) in
+  print-turn {at} next room z e m p t =
+      let b : Block = blockAt network cap s room at in
+      let l = ap length (lays network cap s room at .told) ∙ length-append (b .text) (textFrom network cap s (b .at) (b .more)) in
       let c = rw m at (p .counted) in
       let u = rw e at t in
-      rw (e, m) (record { counted = omega (arith, c, l, u); fits = omega (arith, u) }, lays-some network cap s 65536 at (omega arith))
+      rw (e, m) (record { counted = omega (arith, c, l, u); fits = omega (arith, u) }, lays-some network cap s room at (omega (arith, z)))
 
   pub print-end : {at printed : ℕ} {more : Bool} → more ≡ false → Printed at more printed → printed ≡ length (reportText network cap s) % 2 ^ 64
   print-end m p = let c = rw m at (p .counted) in omega (arith, c, p .fits)

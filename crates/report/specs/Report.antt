@@ -1,5 +1,5 @@
 -- The report of a session (document 01, "At the edges"): the line of each item of its reading, then the line of how it ends; and what the program
--- `session` prints. Then what `next_line` and `put_lines` give of it.
+-- `session` prints. Then what `put_lines` gives of it.
 use Prim.Native.Nat.{ℕ, _-_}
 use mathlib.Core.Bool.{Bool, true, false, cond}
 use mathlib.Core.List.{List, [], _∷_, _++_, flatMap}
@@ -7,18 +7,15 @@ use lib.Dec.{leb, ltb}
 use lib.ListN.{length, take}
 use Rattle.types.specs.declared.Network.{Network}
 use Rattle.types.specs.declared.Network.the-variants.{Mainnet}
-use Rattle.types.specs.declared.StreamPlace.{StreamPlace}
 use Rattle.walk.specs.Walk.{Item, Ending, clean, stopped, unended, Reading, walk}
-use Rattle.walk.specs.Session.{Fields, handshakeFields, messageFields, Verdict, peerVerdict, peersVerdict, noVerdict, Content, handshakeAt, messageAt, sessionStep, sessionReading}
-use Rattle.walk_read.specs.Steps.{streamPlace, layerOf, peerNumber, stepOf}
-use Rattle.walk_read.specs.declared.StepRead.{StepRead}
-use Rattle.walk_read.specs.declared.StepRead.the-variants as StepReads
+use Rattle.walk.specs.Session.{Fields, handshakeFields, messageFields, Verdict, peerVerdict, peersVerdict, noVerdict, Content, handshakeAt, messageAt, sessionReading}
+use Rattle.walk_read.specs.Steps.{streamPlace, layerOf, peerNumber}
 use Rattle.report_input_read.specs.declared.Input.{Input}
 use Rattle.report_input_read.specs.declared.Input.the-variants.{Bytes, Failed}
 use Rattle.wire_text_write.specs.Text.{ascii}
 use Rattle.report_text.specs.Lines.{handshakeLine, messageLine, peersLine, stopLine, endLine}
-use Rattle.report_lines.specs.StepLines.{stopText, lineOf}
-use Rattle.report.specs.declared.Next.{Next}
+use Rattle.report_lines.specs.StepLines.{stopText}
+use Rattle.report_lines.specs.declared.Next.{Next}
 
 -- ---- the report
 
@@ -57,24 +54,6 @@ unread = ascii "unread\n"
 unfoldable pub inputText : Input → List ℕ → List ℕ
 inputText (Bytes n) buf = sessionText (take n buf)
 inputText Failed buf = unread
-
--- ---- a line of it
-
--- the next step is at an item's end; the clean end and a stop are the last
-unfoldable pub nextOf : StepRead → StreamPlace → ℕ → Next
-nextOf (StepReads.Handshake i) at n = record { len = length (lineOf (StepReads.Handshake i) n); at = i .end; more = true }
-nextOf (StepReads.Message i) at n = record { len = length (lineOf (StepReads.Message i) n); at = i .end; more = true }
-nextOf StepReads.End at n = record { len = length (lineOf StepReads.End n); at = at; more = false }
-nextOf (StepReads.Stop t) at n = record { len = length (lineOf (StepReads.Stop t) n); at = at; more = false }
-nextOf StepReads.Outside at n = record { len = length (lineOf StepReads.Outside n); at = at; more = false }
-
-module _ (network : Network) (cap : ℕ) (s : List ℕ) where
-  -- what `next_line` stores and gives at a place
-  abbrev pub lineAt : ℕ → List ℕ
-  lineAt at = lineOf (stepOf network s (sessionStep network cap s at)) (length s)
-
-  abbrev pub nextAt : ℕ → Next
-  nextAt at = nextOf (stepOf network s (sessionStep network cap s at)) (streamPlace at) (length s)
 
 -- ---- lines of it in an output
 

@@ -24,7 +24,8 @@ use Rattle.walk.specs.SessionLaws.{session-readers}
 use Rattle.walk_read.specs.Steps.{streamPlace, stepOf, itemOf}
 use Rattle.walk_read.specs.declared.StepRead.{StepRead}
 use Rattle.report_lines.specs.StepLines.{lineOf, handshakeItemLine, messageOfLine}
-use Rattle.report.specs.Report.{contentLine, itemLine, endingLine, readingText, reportText, nextOf, Block, lineThen, blockOf, readingFrom, blockAt}
+use Rattle.report_lines.specs.NextLines.{nextOf}
+use Rattle.report.specs.Report.{contentLine, itemLine, endingLine, readingText, reportText, Block, lineThen, blockOf, readingFrom, blockAt}
 
 -- ---- the verdict of an item is that on its fields
 

@@ -5,7 +5,8 @@ use mathlib.Core.List.{List, _++_}
 use mathlib.Core.Logic.{_↔_}
 use mathlib.Core.Path.{_≡_}
 use Rattle.types.specs.declared.Network.{Network}
-use Rattle.report.specs.Report.{reportText, sessionText, unread, lineAt, nextAt, blockAt}
+use Rattle.report_lines.specs.NextLines.{lineAt, nextAt}
+use Rattle.report.specs.Report.{reportText, sessionText, unread, blockAt}
 
 module _ (network : Network) (cap : ℕ) (s : List ℕ) where
   -- the lines of `next_line`, from a place on, each next at the place that it gives, joined

@@ -15,7 +15,8 @@ use Rattle.walk_read.specs.Steps.{streamPlace}
 use Rattle.wire_text_write.specs.Text.{ascii}
 use Rattle.report_text.specs.Lines.{labelledNumber, span, handshakeLine, messageText, messageLine, peersLine, stopLine, endLine}
 use Rattle.report_lines.specs.StepLines.{stopText}
-use Rattle.report.specs.Report.{contentLine, itemLine, endingLine, reportText, sessionText, lineAt, nextAt, Block, blockAt}
+use Rattle.report_lines.specs.NextLines.{lineAt, nextAt}
+use Rattle.report.specs.Report.{contentLine, itemLine, endingLine, reportText, sessionText, Block, blockAt}
 use Rattle.report.specs.Theorems as Theorems
 use Rattle.report.specs.Theorems.{LinesFrom, BlocksFrom, LinesAreReport, BlocksAreReport, NeverUnread}
 use Rattle.report.specs.ReportLaws.{linesFrom, textFrom, OneLine, one-line, text-all, lays}

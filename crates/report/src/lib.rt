@@ -1,22 +1,15 @@
-// The report of a session (document 01, "At the edges"): the line of a step, as many lines as fit into a lent output, and the whole of it printed.
+// The report of a session (document 01, "At the edges"): as many lines as fit into a lent output, and the whole of it printed.
 ghost use mathlib.Core.Path.{_≡_};
-ghost use Prim.Native.Nat.{_%_, _^_, _≤_};
+ghost use Prim.Native.Nat.{_%_, _^_};
 ghost use lib.ListN.{length};
 ghost use Rattle.wire.specs.Output.{put};
 ghost use Rattle.io.specs.Counts.{Counts};
-ghost use Rattle.report.specs.Report.{lineAt, nextAt, blockAt, blockNext, reportText, sessionText, inputText};
+ghost use Rattle.report.specs.Report.{blockAt, blockNext, reportText, sessionText, inputText};
 use libc::STDOUT_FILENO;
 use report_input_read::Input;
+use report_lines::Next;
 use types::Network;
 use types::StreamPlace;
-use walk_read::StepRead;
-
-// Lines of the report: how many bytes they take, and the place of the next step, if there is one.
-pub struct Next {
-    pub len: usize,
-    pub at: StreamPlace,
-    pub more: bool,
-}
 
 // The longest input of the program `session` that it reports on.
 const MAX_INPUT: usize = 65536;
@@ -85,7 +78,7 @@ pub fn put_lines(out: &mut [u8], s: &[u8], network: Network, cap: usize, at: Str
     let mut more = true;
     while more && 192 <= out.len() - len {
         let mut line = [0u8; 192];
-        let next = next_line(&mut line, s, network, cap, StreamPlace(place));
+        let next = report_lines::next_line(&mut line, s, network, cap, StreamPlace(place));
         wire_part_write::write_part(out, len, &line[..next.len]);
         len += next.len;
         place = next.at.0;
@@ -95,44 +88,5 @@ pub fn put_lines(out: &mut [u8], s: &[u8], network: Network, cap: usize, at: Str
         len,
         at: StreamPlace(place),
         more,
-    }
-}
-
-// The line of the step at a place of a session. A place past the session's length has no line.
-pub fn next_line(
-    line: &mut [u8; 192],
-    s: &[u8],
-    network: Network,
-    cap: usize,
-    at: StreamPlace,
-) -> Next
-    ensures { λ r. ⌜ r ≡ nextAt network cap (now (s .entry)) (at .0) ⌝ }
-    ensures { λ r. ⌜ now (line .exit) ≡ put (now (line .entry)) 0 (lineAt network cap (now (s .entry)) (at .0)) ⌝ }
-    ensures { λ r. ⌜ r .len ≤ 192 ⌝ }
-{
-    let step = walk_read::step(s, network, cap, at);
-    let len = report_lines::step_line(line, step, s.len());
-    match step {
-        StepRead::Handshake(i) => {
-            let end = i.end;
-            Next {
-                len,
-                at: end,
-                more: true,
-            }
-        }
-        StepRead::Message(i) => {
-            let end = i.end;
-            Next {
-                len,
-                at: end,
-                more: true,
-            }
-        }
-        _ => Next {
-            len,
-            at,
-            more: false,
-        },
     }
 }

@@ -1,13 +1,63 @@
 // The line of each step of a session (document 01, "At the edges"), stored from the first byte of a lent line on.
+ghost use mathlib.Core.Path.{_≡_};
 ghost use Prim.Native.Nat.{_≤_};
-ghost use Rattle.wire.specs.Output.{Wrote};
+ghost use Rattle.wire.specs.Output.{put, Wrote};
+ghost use Rattle.report_lines.specs.NextLines.{lineAt, nextAt};
 ghost use Rattle.report_lines.specs.StepLines.{handshakeItemLine, messageItemLine, stopItemLine, lineOf};
 use messages_read::Message;
+use types::Network;
+use types::StreamPlace;
 use walk_read::HandshakeItem;
 use walk_read::Layer;
 use walk_read::MessageItem;
 use walk_read::StepRead;
 use walk_read::Stop;
+
+// Lines of the report: how many bytes they take, and the place of the next step, if there is one.
+pub struct Next {
+    pub len: usize,
+    pub at: StreamPlace,
+    pub more: bool,
+}
+
+// The line of the step at a place of a session. A place past the session's length has no line.
+pub fn next_line(
+    line: &mut [u8; 192],
+    s: &[u8],
+    network: Network,
+    cap: usize,
+    at: StreamPlace,
+) -> Next
+    ensures { λ r. ⌜ r ≡ nextAt network cap (now (s .entry)) (at .0) ⌝ }
+    ensures { λ r. ⌜ now (line .exit) ≡ put (now (line .entry)) 0 (lineAt network cap (now (s .entry)) (at .0)) ⌝ }
+    ensures { λ r. ⌜ r .len ≤ 192 ⌝ }
+{
+    let step = walk_read::step(s, network, cap, at);
+    let len = step_line(line, step, s.len());
+    match step {
+        StepRead::Handshake(i) => {
+            let end = i.end;
+            Next {
+                len,
+                at: end,
+                more: true,
+            }
+        }
+        StepRead::Message(i) => {
+            let end = i.end;
+            Next {
+                len,
+                at: end,
+                more: true,
+            }
+        }
+        _ => Next {
+            len,
+            at,
+            more: false,
+        },
+    }
+}
 
 // The line of a step of a session of n bytes: how long it is.
 pub fn step_line(line: &mut [u8; 192], step: StepRead, n: usize) -> usize

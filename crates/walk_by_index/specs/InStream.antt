@@ -12,12 +12,12 @@ use Rattle.types.specs.declared.Located.{Located}
 use Rattle.types.specs.declared.Located.the-variants.{At, Refused}
 use Rattle.handshake_read.specs.Answers.{peerSpecOf}
 use Rattle.handshake_read.specs.declared.PeerSpec.{PeerSpec}
+use Rattle.frame_read.specs.Answers.{partIn}
 use Rattle.frame_read.specs.declared.StreamPart.{StreamPart}
 use Rattle.messages_inventory_response_read.specs.Answers.{idOf, payloadOf}
 use Rattle.messages_inventory_response_read.specs.Parts.{idAt, payloadAt}
 use Rattle.messages_inventory_response_read.specs.declared.Payload.{Payload}
 use Rattle.messages_read.specs.Parts.{entryAt}
-use Rattle.walk_read.specs.Given.{partIn}
 use Rattle.walk_by_index.specs.declared.StreamEntry.{StreamEntry}
 use Rattle.walk_by_index.specs.declared.StreamPayload.{StreamPayload}
 

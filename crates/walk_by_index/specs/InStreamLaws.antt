@@ -20,6 +20,7 @@ use Rattle.vlq.specs.ShortString.{shortString}
 use Rattle.types.specs.Places.{located}
 use Rattle.types.specs.declared.StreamPlace.{StreamPlace}
 use Rattle.types.specs.declared.Located.the-variants.{At, Refused}
+use Rattle.frame_read.specs.Answers.{partIn}
 use Rattle.frame_read.specs.declared.StreamPart.{StreamPart}
 use Rattle.handshake.specs.Entry.{version, addressIf, feature, Entry, entry}
 use Rattle.handshake.specs.EntryLaws.{stable-entry}
@@ -31,7 +32,6 @@ use Rattle.messages.specs.PlacesLaws.{gives-payload}
 use Rattle.messages_inventory_response_read.specs.Answers.{idOf, payloadOf}
 use Rattle.messages_inventory_response_read.specs.Parts.{Items, items, itemsStart, itemByIndex, itemAt, idAt, payloadAt}
 use Rattle.messages_read.specs.Parts.{entries, entriesStart, entryAt}
-use Rattle.walk_read.specs.Given.{partIn}
 use Rattle.walk_by_index.specs.InStream.{isInside, inStream, streamEntry, streamPayload, entryPlaces, idPlaces, payloadPlaces, fromBody, entryInStream, idInStream, payloadInStream}
 
 -- ---- `fromBody` and `idPlaces`, case by case

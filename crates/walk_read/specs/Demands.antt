@@ -10,6 +10,7 @@ use Rattle.types.specs.declared.Network.{Network}
 use Rattle.handshake.specs.Entry.{Entry, entry}
 use Rattle.handshake_read.specs.Parts.{featureAt}
 use Rattle.handshake_read.specs.Values.{entryPlace}
+use Rattle.frame_read.specs.Answers.{partIn}
 use Rattle.messages.specs.Writes.{MessageWrite, valueOf}
 use Rattle.messages_inventory_response_read.specs.Parts.{idAt, payloadAt}
 use Rattle.messages_read.specs.Parts.{entryAt}
@@ -20,7 +21,7 @@ use Rattle.walk.specs.Walk.{Layer, Item, clean, stopped, Reading}
 use Rattle.walk.specs.WrittenSession.{Write, writeMessage, sessionMessage, writeValue, Done}
 use Rattle.walk.specs.Calls.{Calls}
 use Rattle.walk.specs.Demands.{Exactly, AnEnd, IsCut, OfHandshake}
-use Rattle.walk_read.specs.Given.{given, GivenFrom, partIn}
+use Rattle.walk_read.specs.Given.{given, GivenFrom}
 use Rattle.walk_read.specs.Values.{givenValues, verdictGiven}
 use Rattle.walk_read.specs.declared.HandshakeItem.{HandshakeItem}
 use Rattle.walk_read.specs.declared.MessageItem.{MessageItem}

@@ -1,10 +1,8 @@
 -- What the code gives of a session: the answers of `step` from place 0 on, each next one at the end that the last answer
--- itself names. And what is reached from an answer: the bytes that its places name.
+-- itself names.
 use Prim.Native.Nat.{ℕ}
 use mathlib.Core.List.{List, map}
-use lib.ListN.{take, drop}
 use Rattle.types.specs.declared.Network.{Network}
-use Rattle.frame_read.specs.declared.StreamPart.{StreamPart}
 use Rattle.walk.specs.Walk as Walk
 use Rattle.walk.specs.Walk.{Item, item, cleanEnd, stop, outside, Reading}
 use Rattle.walk.specs.Session.{Content, sessionStep, sessionReading}
@@ -44,9 +42,3 @@ itemGiven network s i = record { start = i .start; end = i .end; holds = stepOf 
 unfoldable pub givenReading : Network → ℕ → List ℕ → Reading StepRead
 givenReading network cap s =
     record { items = map (itemGiven network s) (sessionReading network cap s .items); ending = sessionReading network cap s .ending }
-
--- ---- what is reached from an answer
-
--- the bytes that a part of the stream s names
-abbrev pub partIn : List ℕ → StreamPart → List ℕ
-partIn s p = take (p .len) (drop (p .start .0) s)

@@ -11,6 +11,7 @@ use Rattle.handshake.specs.Entry.{entry, feature}
 use Rattle.handshake_read.specs.Answers.{peerSpecOf}
 use Rattle.handshake_read.specs.Parts.{featureAt}
 use Rattle.handshake_read.specs.Values.{entryPlace}
+use Rattle.frame_read.specs.Answers.{partIn}
 use Rattle.frame_read.specs.declared.StreamPart.{StreamPart}
 use Rattle.messages.specs.Message.{payloadAfter}
 use Rattle.messages_inventory_response_read.specs.Parts.{idAt, payloadAt}
@@ -21,7 +22,7 @@ use Rattle.walk_read.specs.declared.HandshakeItem.{HandshakeItem}
 use Rattle.walk_read.specs.declared.MessageItem.{MessageItem}
 use Rattle.walk_read.specs.declared.StepRead.{StepRead}
 use Rattle.walk_read.specs.declared.StepRead.the-variants as StepReads
-use Rattle.walk_read.specs.Given.{given, GivenFrom, givenReading, partIn}
+use Rattle.walk_read.specs.Given.{given, GivenFrom, givenReading}
 
 -- The body named by an answer over `whole` stands in `part` too, and the readers by index, and those from a place on, read
 -- the same of it.

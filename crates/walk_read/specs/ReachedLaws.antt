@@ -20,6 +20,7 @@ use Rattle.vlq.specs.VlqLaws.{stable-vlq}
 use Rattle.types.specs.declared.Network.{Network}
 use Rattle.frame.specs.Frame.{BodyFrame, frame}
 use Rattle.frame.specs.FrameLaws.{frame-places}
+use Rattle.frame_read.specs.Answers.{partIn}
 use Rattle.frame_read.specs.declared.StreamPart.{StreamPart}
 use Rattle.handshake.specs.Entry.{EntryFeature, feature, Entry, entry, EntryHandshake, handshake}
 use Rattle.handshake.specs.Verdict.{validatePeer}
@@ -45,7 +46,7 @@ use Rattle.walk_read.specs.declared.HandshakeItem.{HandshakeItem}
 use Rattle.walk_read.specs.declared.MessageItem.{MessageItem}
 use Rattle.walk_read.specs.declared.StepRead.{StepRead}
 use Rattle.walk_read.specs.declared.StepRead.the-variants as StepReads
-use Rattle.walk_read.specs.Given.{given, partIn}
+use Rattle.walk_read.specs.Given.{given}
 use Rattle.walk_read.specs.GivenTheorems.{SameBody, SameEntry}
 
 -- ---- a body

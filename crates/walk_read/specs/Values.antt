@@ -3,13 +3,13 @@
 use Prim.Native.Nat.{ℕ}
 use mathlib.Core.List.{List, [], _∷_, flatMap}
 use Rattle.handshake_read.specs.Values.{handshakeGiven}
+use Rattle.frame_read.specs.Answers.{partIn}
 use Rattle.messages_read.specs.Values.{messageGiven}
 use Rattle.messages_read.specs.declared.Message.{Message}
 use Rattle.messages_read.specs.declared.Message.the-variants as Messages
 use Rattle.walk.specs.Session.{Verdict, peerVerdict, peersVerdict, noVerdict}
 use Rattle.walk.specs.Walk.{Item}
 use Rattle.walk.specs.WrittenSession.{Value, sessionHandshake, sessionMessage}
-use Rattle.walk_read.specs.Given.{partIn}
 use Rattle.walk_read.specs.declared.StepRead.{StepRead}
 use Rattle.walk_read.specs.declared.StepRead.the-variants as StepReads
 

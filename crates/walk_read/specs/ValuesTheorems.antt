@@ -4,6 +4,7 @@ use mathlib.Core.List.{List, map}
 use mathlib.Core.Path.{_≡_}
 use Rattle.wire.specs.Reader.{got}
 use Rattle.types.specs.declared.Network.{Network}
+use Rattle.frame_read.specs.Answers.{partIn}
 use Rattle.messages.specs.Message.{Message, message}
 use Rattle.messages_read.specs.Values.{ListGiven}
 use Rattle.walk.specs.Walk.{clean, Reading}
@@ -13,7 +14,7 @@ use Rattle.walk.specs.Calls.{Calls}
 use Rattle.walk_read.specs.declared.MessageItem.{MessageItem}
 use Rattle.walk_read.specs.declared.StepRead.{StepRead}
 use Rattle.walk_read.specs.declared.StepRead.the-variants as StepReads
-use Rattle.walk_read.specs.Given.{given, GivenFrom, partIn}
+use Rattle.walk_read.specs.Given.{given, GivenFrom}
 use Rattle.walk_read.specs.Values.{givenValues, verdictGiven}
 
 module _ (network : Network) (cap : ℕ) where

@@ -1,5 +1,7 @@
 -- `report::print_report` meets its contract: each turn prints a block, and the rest of the report is to come.
+use Prim.Native.Nat.{ℕ}
 use denote.Ref.{now}
+use lib.ListN.{length-replicate}
 use borrow.Author.Needs.{needs}
 use Rattle.report.specs.ReportLaws.{linesFrom}
 use Rattle.report.proofs.BlockLaws.{Printed, print-start, print-turn, print-end}
@@ -19,13 +21,13 @@ loop-less : tie.Need-loop-less Inv-loop μ-loop
 loop-less c =
     let a = c .before .before .before .before .before .before .before .before .before .args in
     let n = c .before .before .before .before .put-lines in
-    print-turn (a .network) (a .cap) (now (a .s)) (n .result) (n .ensures .0) (c .before .before .before .before .before .before .loop-test .taken) (c .before .before .before .before .before .before .before .loop .inv) (c .wrapping-add-u64 .ensures) .1
+    print-turn (a .network) (a .cap) (now (a .s)) (n .result) _ (length-replicate {A = ℕ} 65536 0) (n .ensures .0) (c .before .before .before .before .before .before .loop-test .taken) (c .before .before .before .before .before .before .before .loop .inv) (c .wrapping-add-u64 .ensures) .1
 
 loop-again : tie.Need-loop-again Inv-loop μ-loop
 loop-again c =
     let a = c .before .before .before .before .before .before .before .before .before .args in
     let n = c .before .before .before .before .put-lines in
-    print-turn (a .network) (a .cap) (now (a .s)) (n .result) (n .ensures .0) (c .before .before .before .before .before .before .loop-test .taken) (c .before .before .before .before .before .before .before .loop .inv) (c .wrapping-add-u64 .ensures) .0
+    print-turn (a .network) (a .cap) (now (a .s)) (n .result) _ (length-replicate {A = ℕ} 65536 0) (n .ensures .0) (c .before .before .before .before .before .before .loop-test .taken) (c .before .before .before .before .before .before .before .loop .inv) (c .wrapping-add-u64 .ensures) .0
 
 returns : tie.Need-returns Inv-loop μ-loop
 returns c =

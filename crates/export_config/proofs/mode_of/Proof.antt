@@ -1,10 +1,10 @@
--- `haspeljo::writers::mode_of` meets its contract: by the number.
+-- `export_config::mode_of` meets its contract: by the number.
 use Prim.Native.Nat.{ℕ, zero, suc}
 use mathlib.Core.Path.{_≡_, refl}
 use Rattle.types.specs.declared.ProxyMode.the-variants.{Light}
-use Rattle.haspeljo.specs.Configs.{modeOf}
-use Rattle.haspeljo.proofs.writers.mode_of.Statement.{statement}
-use Rattle.haspeljo.proofs.writers.mode_of.Tie as tie
+use Rattle.export_config.specs.Configs.{modeOf}
+use Rattle.export_config.proofs.mode_of.Statement.{statement}
+use Rattle.export_config.proofs.mode_of.Tie as tie
 
 returns : tie.Need-returns
 unfolding modeOf

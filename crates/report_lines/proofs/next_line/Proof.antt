@@ -1,4 +1,4 @@
--- `report::next_line` meets its contract: the line of the step, and its end if it is an item.
+-- `report_lines::next_line` meets its contract: the line of the step, and its end if it is an item.
 use Prim.Native.Nat.{ℕ}
 use native.Mathlib.Omega.{arith}
 use mathlib.Core.List.{List}
@@ -6,11 +6,11 @@ use mathlib.Core.Path.{_≡_}
 use denote.Ref.{now}
 use lib.ListN.{length}
 use Rattle.wire.specs.Output.{Wrote}
-use Rattle.report.specs.Report.{nextOf}
-use Rattle.report.proofs.LastLaws.{last-step}
+use Rattle.report_lines.specs.NextLines.{nextOf}
+use Rattle.report_lines.proofs.LastLaws.{last-step}
 use borrow.Author.Needs.{needs}
-use Rattle.report.proofs.next_line.Statement.{statement}
-use Rattle.report.proofs.next_line.Tie as tie
+use Rattle.report_lines.proofs.next_line.Statement.{statement}
+use Rattle.report_lines.proofs.next_line.Tie as tie
 
 line-end : {out bs last : List ℕ} {e : ℕ} → Wrote out 0 bs e last → e ≡ length bs
 line-end w = omega (arith, w .end)

@@ -1,10 +1,10 @@
--- `haspeljo::writers::is_set` meets its contract: by the number.
+-- `export_config::is_set` meets its contract: by the number.
 use Prim.Native.Nat.{ℕ, zero, suc}
 use mathlib.Core.Path.{_≡_, refl}
 use mathlib.Core.Bool.{true}
-use Rattle.haspeljo.specs.Configs.{isSet}
-use Rattle.haspeljo.proofs.writers.is_set.Statement.{statement}
-use Rattle.haspeljo.proofs.writers.is_set.Tie as tie
+use Rattle.export_config.specs.Configs.{isSet}
+use Rattle.export_config.proofs.is_set.Statement.{statement}
+use Rattle.export_config.proofs.is_set.Tie as tie
 
 returns : tie.Need-returns
 unfolding isSet

@@ -1,10 +1,10 @@
--- `haspeljo::writers::address_from` meets its contract: by the kind.
+-- `export_config::address_from` meets its contract: by the kind.
 use borrow.Author.Tests.{eq-eqb, ne-eqb}
-use Rattle.haspeljo.specs.Configs.{addressFrom}
-use Rattle.haspeljo.proofs.BuildLaws.{v4-below}
+use Rattle.export_config.specs.Configs.{addressFrom}
+use Rattle.export_config.proofs.ConfigLaws.{v4-below}
 use borrow.Author.Needs.{needs}
-use Rattle.haspeljo.proofs.writers.address_from.Statement.{statement}
-use Rattle.haspeljo.proofs.writers.address_from.Tie as tie
+use Rattle.export_config.proofs.address_from.Statement.{statement}
+use Rattle.export_config.proofs.address_from.Tie as tie
 
 returns : tie.Need-returns
 unfolding addressFrom

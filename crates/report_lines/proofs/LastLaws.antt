@@ -10,8 +10,8 @@ use Rattle.types.specs.declared.StreamPlace.{StreamPlace}
 use Rattle.walk_read.proofs.StepRead as StepReadProofs
 use Rattle.walk_read.specs.declared.StepRead.{StepRead}
 use Rattle.walk_read.specs.declared.StepRead.the-variants as StepReads
 use Rattle.report_lines.specs.StepLines.{lineOf}
-use Rattle.report.specs.Report.{nextOf}
+use Rattle.report_lines.specs.NextLines.{nextOf}
 
 pub last-step : (r : StepRead) (at : StreamPlace) (n : ℕ) → OneOf (2 ∷ 3 ∷ 4 ∷ []) (tagOf StepReadProofs.the-type r)
     → record { len = length (lineOf r n); at = at; more = false } ≡ nextOf r at n

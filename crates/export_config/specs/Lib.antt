@@ -1,0 +1,3 @@
+pub mod Configs
+pub mod ConfigsLaws
+pub mod Cases
