@@ -1,7 +1,7 @@
 //! Prints the report of a session in a file, or on standard input: mainnet, cap 64. Below each item
 //! stands, indented, what it holds.
 
-use haspeljo::{Ending, Entry, Handshake, Item, Message, ModifierId, Network, Session};
+use haspeljo::{Entry, Handshake, Item, Message, ModifierId, Network, Session, Stop};
 use std::env;
 use std::fs;
 use std::io::{self, Read, Write};
@@ -24,35 +24,37 @@ fn input() -> io::Result<Vec<u8>> {
 }
 
 fn report(bytes: &[u8], out: &mut impl Write) -> io::Result<()> {
-    let mut session = Session::new(bytes, NETWORK, CAP);
-    for item in session.by_ref() {
-        print_item(out, item)?;
-    }
-    match session.ending() {
-        Ending::Clean => writeln!(out, "end {}", bytes.len()),
-        Ending::Stopped(stop) => {
-            writeln!(out, "stop {} {} {}", stop.layer, stop.error.number(), stop.start)?;
-            let cut = if stop.is_cut() { "cut: " } else { "" };
-            writeln!(out, "    {cut}{}", stop.error)
+    for item in Session::new(bytes, NETWORK, CAP) {
+        match item {
+            Ok(item) => print_item(out, item)?,
+            Err(stop) => return print_stop(out, stop),
         }
     }
+    writeln!(out, "end {}", bytes.len())
+}
+
+fn print_stop(out: &mut impl Write, stop: Stop) -> io::Result<()> {
+    writeln!(out, "stop {} {} {}", stop.layer, stop.error.number(), stop.start)?;
+    let cut = if stop.is_cut() { "cut: " } else { "" };
+    writeln!(out, "    {cut}{}", stop.error)
 }
 
 fn print_item(out: &mut impl Write, item: Item) -> io::Result<()> {
     match item {
-        Item::Handshake { start, end, handshake, verdict } => {
-            let (version, verdict) = (handshake.entry.version, verdict.number());
+        Item::Handshake { start, end, handshake, verdict, .. } => {
+            let (version, verdict) = (handshake.entry.version(), verdict.number());
             writeln!(out, "handshake {start} {end} version {version} verdict {verdict}")?;
             print_handshake(out, handshake)
         }
         Item::Message { start, end, code, message, .. } => {
             write!(out, "message {start} {end} code {code}")?;
-            if let Message::Peers { bogus, entries } = &message {
+            if let Message::Peers { bogus, entries, .. } = &message {
                 write!(out, " entries {} bogus {bogus}", entries.len())?;
             }
             writeln!(out)?;
             print_message(out, message)
         }
+        _ => Ok(()),
     }
 }
 
@@ -88,24 +90,23 @@ fn mark(entry: Entry) -> &'static str {
 
 fn print_message(out: &mut impl Write, message: Message) -> io::Result<()> {
     match message {
-        Message::GetPeers => Ok(()),
         Message::Peers { entries, .. } => entries.enumerate().try_for_each(|(i, entry)| {
             let verdict = entry.verdict(NETWORK).number();
-            writeln!(out, "    entry {i} version {} verdict {verdict}", entry.version)?;
+            writeln!(out, "    entry {i} version {} verdict {verdict}", entry.version())?;
             print_entry(out, "        ", entry)
         }),
-        Message::ModifierRequest { modifier_type, ids } | Message::Inv { modifier_type, ids } => {
-            print_ids(out, modifier_type, ids)
-        }
-        Message::ModifierResponse { modifier_type, mut payloads } => {
+        Message::ModifierRequest { modifier_type, ids, .. }
+        | Message::Inv { modifier_type, ids, .. } => print_ids(out, modifier_type, ids),
+        Message::ModifierResponse { modifier_type, mut payloads, .. } => {
             writeln!(out, "    type {modifier_type}")?;
-            payloads.try_for_each(|(id, bytes)| {
-                writeln!(out, "    payload {} of {} bytes", hex(id), bytes.len())
+            payloads.try_for_each(|payload| {
+                writeln!(out, "    payload {} of {} bytes", hex(payload.id), payload.bytes.len())
             })
         }
         Message::SyncInfo(body) | Message::Unknown(body) => {
             writeln!(out, "    {} bytes", body.len())
         }
+        _ => Ok(()),
     }
 }
 

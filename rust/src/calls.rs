@@ -1,21 +1,28 @@
 //! A safe form of each function that the crate calls: slices for pointers and lengths, a `Result`
 //! for the refusal number and the result array. All unsafe code of the crate is here.
 
-use crate::{Error, HandshakeConfig, Network, ProxyMode};
+use crate::{refusal, Error, HandshakeConfig, Network, ProxyMode};
 use haspeljo_sys::*;
 use std::mem::MaybeUninit;
 use std::ops::Range;
 
 /// The result array of an accepted call.
+#[inline]
 fn call<const N: usize>(f: impl FnOnce(&mut [u64; N]) -> u8) -> Result<[u64; N], Error> {
     let mut r = [0; N];
     match f(&mut r) {
         0 => Ok(r),
-        number => Err(Error::of(number).expect("a refusal number of 1 to 16")),
+        number => Err(refused(number)),
     }
 }
 
+#[cold]
+fn refused(number: u8) -> Error {
+    refusal(number.into())
+}
+
 /// The end of an accepted write.
+#[inline]
 fn write(f: impl FnOnce(&mut [u64; 1]) -> u8) -> Result<usize, Error> {
     let [end] = call(f)?;
     Ok(end as usize)
@@ -45,6 +52,11 @@ pub fn read_part(s: &[u8], at: usize, count: usize) -> Result<[u64; 3], Error> {
     call(|r| unsafe { haspeljo_read_part(s.as_ptr(), s.len(), at, count, r) })
 }
 
+/// Writes the shortest VLQ of a value.
+///
+/// # Errors
+///
+/// `Outside`, `NoRoom`.
 pub fn write_vlq(out: &mut [u8], at: usize, value: u64) -> Result<usize, Error> {
     write(|r| unsafe { haspeljo_write_vlq(out.as_mut_ptr(), out.len(), at, value, r) })
 }
@@ -55,28 +67,38 @@ pub fn write_short_string(out: &mut [u8], at: usize, s: &[u8]) -> Result<usize, 
     })
 }
 
+/// Writes bytes as they are.
+///
+/// # Errors
+///
+/// `Outside`, `NoRoom`.
 pub fn write_part(out: &mut [u8], at: usize, s: &[u8]) -> Result<usize, Error> {
     write(|r| unsafe {
         haspeljo_write_part(out.as_mut_ptr(), out.len(), at, s.as_ptr(), s.len(), r)
     })
 }
 
+/// The zigzag number of 32 bits: 0, 1, 2 for 0, -1, 1.
 pub fn zigzag_encode(value: i32) -> u32 {
     unsafe { haspeljo_zigzag_encode(value) }
 }
 
+/// The reverse of `zigzag_encode`.
 pub fn zigzag_decode(value: u32) -> i32 {
     unsafe { haspeljo_zigzag_decode(value) }
 }
 
+/// The zigzag number of 64 bits: 0, 1, 2 for 0, -1, 1.
 pub fn zigzag_encode_i64(value: i64) -> u64 {
     unsafe { haspeljo_zigzag_encode_i64(value) }
 }
 
+/// The reverse of `zigzag_encode_i64`.
 pub fn zigzag_decode_i64(value: u64) -> i64 {
     unsafe { haspeljo_zigzag_decode_i64(value) }
 }
 
+/// Whether bytes are UTF-8 (RFC 3629).
 pub fn is_utf8(s: &[u8]) -> bool {
     unsafe { haspeljo_is_utf8(s.as_ptr(), s.len()) == 1 }
 }
@@ -89,6 +111,7 @@ pub fn is_bogus_v6(high: u64, low: u64, network: Network) -> bool {
     unsafe { haspeljo_is_bogus_v6(high, low, 0, mainnet(network)) == 1 }
 }
 
+/// BLAKE2b with a 32-byte output and no key (RFC 7693).
 pub fn blake2b256(s: &[u8]) -> [u8; 32] {
     let mut r = MaybeUninit::uninit();
     unsafe {
@@ -97,6 +120,7 @@ pub fn blake2b256(s: &[u8]) -> [u8; 32] {
     }
 }
 
+/// The check of a frame with this body: the first four bytes of its BLAKE2b-256.
 pub fn frame_check(s: &[u8]) -> [u8; 4] {
     let mut r = [0; 4];
     unsafe { haspeljo_frame_check(s.as_ptr(), s.len(), &mut r) };
@@ -202,6 +226,7 @@ pub fn write_entry(out: &mut [u8], at: usize, lent: Lent, index: usize) -> Resul
     })
 }
 
+#[inline]
 pub fn write_handshake(
     out: &mut [u8],
     at: usize,
@@ -265,6 +290,11 @@ pub fn build(
     })
 }
 
+/// Writes a frame of any code with a body.
+///
+/// # Errors
+///
+/// `Outside`, `LongBody`, `NoRoom`.
 pub fn encode(
     out: &mut [u8],
     at: usize,
@@ -279,6 +309,11 @@ pub fn encode(
     })
 }
 
+/// Writes a GetPeers message.
+///
+/// # Errors
+///
+/// `Outside`, `NoRoom`.
 pub fn write_get_peers(out: &mut [u8], at: usize, network: Network) -> Result<usize, Error> {
     let mainnet = mainnet(network);
     write(|r| unsafe { haspeljo_write_get_peers(out.as_mut_ptr(), out.len(), at, mainnet, r) })
@@ -348,6 +383,11 @@ pub fn write_listed(
     })
 }
 
+/// Writes a SyncInfo message.
+///
+/// # Errors
+///
+/// `Outside`, `LongBody`, `NoRoom`.
 pub fn write_sync_info(
     out: &mut [u8],
     at: usize,
@@ -361,6 +401,11 @@ pub fn write_sync_info(
     })
 }
 
+/// Writes a message whose code is none of [`MessageCode`](crate::MessageCode).
+///
+/// # Errors
+///
+/// `Outside`, `LongBody`, `Unwritable`, `NoRoom`.
 pub fn write_unknown(
     out: &mut [u8],
     at: usize,

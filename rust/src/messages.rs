@@ -2,64 +2,117 @@
 
 use crate::{again, calls, part, Entry, Error, Network};
 
-/// The code and the body of a frame, and the place after it.
-#[derive(Clone, Copy, Debug, PartialEq, Eq, Hash)]
+/// A frame.
+#[derive(Clone, Copy, PartialEq, Eq, Hash)]
+#[non_exhaustive]
 pub struct Frame<'a> {
+    /// Which message it holds, as in [`MessageCode`].
     pub code: u8,
+    /// The message's bytes.
     pub body: &'a [u8],
+    /// The place after it.
     pub end: usize,
 }
 
 /// The frame at a place.
+///
+/// # Errors
+///
+/// `Outside`, `ShortFrame`, `OtherMagic`, `LongBody`, `ShortBody`, `OtherCheck`.
 pub fn decode(bytes: &[u8], network: Network, at: usize) -> Result<Frame<'_>, Error> {
     let [code, start, length, end] = calls::decode(bytes, network, at)?;
     Ok(Frame { code: code as u8, body: part(bytes, start, length), end: end as usize })
 }
 
 /// The codes of known messages.
+#[derive(Clone, Copy, Debug)]
 pub struct MessageCode;
 
 impl MessageCode {
+    /// Asks for peers.
     pub const GET_PEERS: u8 = 1;
+    /// Names peers.
     pub const PEERS: u8 = 2;
+    /// Asks for modifiers.
     pub const MODIFIER_REQUEST: u8 = 22;
+    /// Gives modifiers.
     pub const MODIFIER_RESPONSE: u8 = 33;
+    /// Names modifiers.
     pub const INV: u8 = 55;
+    /// Says which headers a peer has.
     pub const SYNC_INFO: u8 = 65;
 }
 
+/// The id of a modifier: a block, a transaction, a header.
 pub type ModifierId = [u8; 32];
 
-/// A modifier's id and bytes.
-pub type Payload<'a> = (&'a ModifierId, &'a [u8]);
+/// A modifier's id and bytes, as they are read and as they are written.
+#[derive(Clone, Copy, PartialEq, Eq, Hash)]
+#[non_exhaustive]
+pub struct Payload<'a> {
+    /// The modifier's id.
+    pub id: &'a ModifierId,
+    /// The modifier's bytes, as they are.
+    pub bytes: &'a [u8],
+}
+
+impl<'a> Payload<'a> {
+    /// The payload of an id and bytes.
+    pub const fn new(id: &'a ModifierId, bytes: &'a [u8]) -> Payload<'a> {
+        Payload { id, bytes }
+    }
+}
 
 /// What a message's body holds. That of SyncInfo and of a message of another code is taken whole.
-#[derive(Clone, Debug)]
+#[derive(Clone, PartialEq, Eq)]
+#[non_exhaustive]
 pub enum Message<'a> {
+    /// Asks for peers; what its body holds is ignored.
     GetPeers,
-    /// `bogus` of the entries have a bogus address.
+    /// Names peers.
+    #[non_exhaustive]
     Peers {
+        /// How many of the entries have a bogus address.
         bogus: usize,
+        /// The peers.
         entries: Entries<'a>,
     },
+    /// Asks for modifiers.
+    #[non_exhaustive]
     ModifierRequest {
+        /// What kind of modifier.
         modifier_type: u8,
+        /// Which ones.
         ids: &'a [ModifierId],
     },
+    /// Gives modifiers.
+    #[non_exhaustive]
     ModifierResponse {
+        /// What kind of modifier.
         modifier_type: u8,
+        /// The modifiers.
         payloads: Payloads<'a>,
     },
+    /// Names modifiers.
+    #[non_exhaustive]
     Inv {
+        /// What kind of modifier.
         modifier_type: u8,
+        /// Which ones.
         ids: &'a [ModifierId],
     },
+    /// Says which headers a peer has.
     SyncInfo(&'a [u8]),
+    /// A message of another code.
     Unknown(&'a [u8]),
 }
 
 impl<'a> Message<'a> {
     /// The message of a frame's code and body, a Peers message having at most `cap` entries.
+    ///
+    /// # Errors
+    ///
+    /// `Missing`, `LongVlq`, `OverLimit`, `NotUtf8`, `ManyItems`, `LongPayloads`.
     pub fn from_frame(
         code: u8,
         body: &'a [u8],
@@ -98,7 +151,7 @@ fn ids(body: &[u8], at: usize, count: usize) -> &[ModifierId] {
 }
 
 /// The entries of a Peers message.
-#[derive(Clone, Debug)]
+#[derive(Clone)]
 pub struct Entries<'a> {
     body: &'a [u8],
     at: usize,
@@ -122,8 +175,10 @@ impl<'a> Iterator for Entries<'a> {
 
 impl ExactSizeIterator for Entries<'_> {}
 
+impl std::iter::FusedIterator for Entries<'_> {}
+
 /// The payloads of a ModifierResponse.
-#[derive(Clone, Debug)]
+#[derive(Clone)]
 pub struct Payloads<'a> {
     body: &'a [u8],
     at: usize,
@@ -139,7 +194,8 @@ impl<'a> Iterator for Payloads<'a> {
         let [id, start, length, next, total] =
             again(calls::read_payload(self.body, self.at, self.total));
         (self.at, self.total) = (next as usize, total as usize);
-        Some((&ids(self.body, id as usize, 1)[0], part(self.body, start, length)))
+        let id = &ids(self.body, id as usize, 1)[0];
+        Some(Payload { id, bytes: part(self.body, start, length) })
     }
 
     fn size_hint(&self) -> (usize, Option<usize>) {
@@ -148,3 +204,5 @@ impl<'a> Iterator for Payloads<'a> {
 }
 
 impl ExactSizeIterator for Payloads<'_> {}
+
+impl std::iter::FusedIterator for Payloads<'_> {}

@@ -5,20 +5,31 @@ use std::ops::Range;
 
 /// Where the parts of a Peers message's entry stand. The entry ends where its features do.
 #[derive(Clone, Debug, PartialEq, Eq, Hash)]
+#[non_exhaustive]
 pub struct EntryPlaces {
+    /// The agent's bytes.
     pub agent: Range<usize>,
+    /// The name's bytes.
     pub name: Range<usize>,
+    /// All features, each with its id and length.
     pub features: Range<usize>,
 }
 
 /// Where a modifier's id and bytes stand.
 #[derive(Clone, Debug, PartialEq, Eq, Hash)]
+#[non_exhaustive]
 pub struct PayloadPlaces {
+    /// The modifier's id.
     pub id: Range<usize>,
+    /// The modifier's bytes.
     pub bytes: Range<usize>,
 }
 
 /// An entry of the Peers message whose body stands there in the session's bytes, with at most `cap` entries.
+///
+/// # Errors
+///
+/// `Outside` for a body or an index outside; of the body `Missing`, `LongVlq`, `OverLimit`, `NotUtf8`, `ManyItems`.
 pub fn entry_in_stream(
     bytes: &[u8],
     body: Range<usize>,
@@ -34,12 +45,21 @@ pub fn entry_in_stream(
 }
 
 /// An id of the ModifierRequest or Inv message whose body stands there.
+///
+/// # Errors
+///
+/// `Outside` for a body or an index outside; of the body `Missing`, `LongVlq`, `OverLimit`, `ManyItems`.
 pub fn id_in_stream(bytes: &[u8], body: Range<usize>, index: usize) -> Result<Range<usize>, Error> {
     let [id] = calls::id_in_stream(bytes, body, index)?;
     Ok(range(id, 32))
 }
 
 /// A payload of the ModifierResponse message whose body stands there.
+///
+/// # Errors
+///
+/// `Outside` for a body or an index outside; of the body `Missing`, `LongVlq`, `OverLimit`,
+/// `ManyItems`, `LongPayloads`.
 pub fn payload_in_stream(
     bytes: &[u8],
     body: Range<usize>,

@@ -1,71 +1,60 @@
-//! A session of every message, cut and damaged at each byte, still reads to an ending.
+//! A session of every message, cut, grown and damaged at each byte, still reads to an ending.
 
 use haspeljo::*;
+use std::net::SocketAddr;
 
 const NETWORK: Network = Network::Mainnet;
 const CAP: usize = 64;
 
 fn whole() -> Vec<u8> {
-    let entry = EntryValue {
-        agent: "ergoref",
-        version: Version::new(5, 0, 20),
-        name: "nodé",
-        address: "[2a01:4f8::1]:9030".parse().ok(),
-        features: &[(3, &[1, 0, 2, 4, 9]), (4, b"\x03url"), (200, &[])],
-    };
-    let mut out = vec![0; 2000];
-    let at = write_handshake(&mut out, 0, 300, &entry).unwrap();
-    let at = write_get_peers(&mut out, at, NETWORK).unwrap();
-    let at = write_peers(&mut out, at, NETWORK, CAP, &[entry, entry]).unwrap();
-    let at = write_modifier_request(&mut out, at, NETWORK, 101, &[[1; 32]]).unwrap();
-    let at = write_modifier_response(&mut out, at, NETWORK, 102, &[(&[2; 32], b"abc")]).unwrap();
-    let at = write_inv(&mut out, at, NETWORK, 2, &[[3; 32], [4; 32]]).unwrap();
-    let at = write_sync_info(&mut out, at, NETWORK, b"headers").unwrap();
-    let at = write_unknown(&mut out, at, NETWORK, 90, b"other").unwrap();
-    out.truncate(at);
+    let entry = EntryValue::new("ergoref", Version::new(5, 0, 20), "nodé")
+        .with_address("[2a01:4f8::1]:9030".parse::<SocketAddr>().ok())
+        .with_features([(3, &[1, 0, 2, 4, 9][..]), (4, b"\x03url"), (200, &[])].map(feature));
+    let entries = [entry.clone(), entry];
+    let network = NETWORK;
+    let mut out = vec![];
+    for write in [
+        Write::Handshake { timestamp: 300, entry: &entries[0] },
+        Write::GetPeers { network },
+        Write::Peers { network, cap: CAP, entries: &entries },
+        Write::ModifierRequest { network, modifier_type: 101, ids: &[[1; 32]] },
+        Write::ModifierResponse {
+            network,
+            modifier_type: 102,
+            payloads: &[Payload::new(&[2; 32], b"abc")],
+        },
+        Write::Inv { network, modifier_type: 2, ids: &[[3; 32], [4; 32]] },
+        Write::SyncInfo { network, body: b"headers" },
+        Write::Unknown { network, code: 90, body: b"other" },
+    ] {
+        write.append(&mut out).unwrap();
+    }
     out
 }
 
-/// All that can be read of a session, as text, each item with its end.
-fn read(bytes: &[u8]) -> (Vec<(usize, String)>, Ending) {
+fn feature<'a>((id, body): (u8, &'a [u8])) -> Feature<'a> {
+    Feature::new(id, body)
+}
+
+fn read(bytes: &[u8]) -> (Vec<Item<'_>>, Ending) {
     let mut session = Session::new(bytes, NETWORK, CAP);
-    let items = session.by_ref().map(|item| (item.end(), shown(item))).collect();
+    let items = session.by_ref().flatten().inspect(look).collect();
     (items, session.ending())
 }
 
-fn shown(item: Item) -> String {
+/// What is read of an item beside its fields.
+fn look(item: &Item) {
     match item {
-        Item::Handshake { start, handshake, verdict, .. } => {
-            assert_eq!(verdict, handshake.verdict(NETWORK));
-            format!("{start} {} {}", handshake.timestamp, shown_entry(handshake.entry))
+        Item::Handshake { handshake, verdict, .. } => {
+            assert_eq!(*verdict, handshake.verdict(NETWORK));
+            assert!(handshake.entry.rest_api_url().is_none_or(|url| url.len() < 256));
         }
-        Item::Message { start, code, body, message, .. } => {
-            format!("{start} {code} {body:?} {:?}", shown_message(message))
+        Item::Message { message: Message::Peers { bogus, entries, .. }, .. } => {
+            let entries = entries.clone();
+            assert_eq!(*bogus, entries.filter(|entry| entry.is_bogus(NETWORK)).count());
         }
+        _ => {}
     }
-}
-
-fn shown_message(message: Message) -> Vec<String> {
-    match message {
-        Message::GetPeers => vec![],
-        Message::Peers { bogus, entries } => {
-            assert_eq!(bogus, entries.clone().filter(|entry| entry.is_bogus(NETWORK)).count());
-            entries.map(shown_entry).collect()
-        }
-        Message::ModifierRequest { ids, .. } | Message::Inv { ids, .. } => {
-            ids.iter().map(|id| format!("{id:?}")).collect()
-        }
-        Message::ModifierResponse { payloads, .. } => {
-            payloads.map(|payload| format!("{payload:?}")).collect()
-        }
-        Message::SyncInfo(body) | Message::Unknown(body) => vec![format!("{body:?}")],
-    }
-}
-
-fn shown_entry(entry: Entry) -> String {
-    let features: Vec<Feature> = entry.features().collect();
-    let strings = (entry.agent(), entry.name(), entry.rest_api_url());
-    format!("{strings:?} {} {:?} {features:?}", entry.version, entry.address())
 }
 
 #[test]
@@ -74,15 +63,46 @@ fn a_cut_leaves_the_items_that_end_by_it() {
     let (items, ending) = read(&bytes);
     assert_eq!((items.len(), ending), (8, Ending::Clean));
     for k in 0..=bytes.len() {
-        let by_k: Vec<_> = items.iter().filter(|(end, _)| *end <= k).cloned().collect();
-        let at_an_end = by_k.last().is_some_and(|(end, _)| *end == k);
+        let by_k = items.iter().take_while(|item| item.end() <= k).count();
+        let at_an_end = by_k > 0 && items[by_k - 1].end() == k;
         let (cut, ending) = read(&bytes[..k]);
-        assert_eq!(cut, by_k);
+        assert_eq!(cut, items[..by_k]);
         match ending {
             Ending::Clean => assert!(at_an_end),
             Ending::Stopped(stop) => assert!(stop.is_cut() && !at_an_end),
         }
     }
+}
+
+#[test]
+fn a_session_goes_on_from_every_cut() {
+    let bytes = whole();
+    let (items, _) = read(&bytes);
+    for k in 0..=bytes.len() {
+        let mut session = Session::new(&bytes[..k], NETWORK, CAP);
+        let mut read: Vec<Item> = session.by_ref().flatten().collect();
+        let place = session.place();
+        assert_eq!(place, read.last().map_or(0, Item::end));
+        // What stands before the place is not read again.
+        let mut grown = bytes.clone();
+        grown[..place].fill(0xee);
+        let mut rest = Session::resume(&grown, NETWORK, CAP, place).unwrap();
+        read.extend(rest.by_ref().flatten());
+        assert_eq!(read, items);
+        assert_eq!((rest.ending(), rest.place()), (Ending::Clean, bytes.len()));
+    }
+}
+
+#[test]
+fn a_session_grows_byte_by_byte() {
+    let bytes = whole();
+    let (mut place, mut read) = (0, vec![]);
+    for k in 0..=bytes.len() {
+        let mut session = Session::resume(&bytes[..k], NETWORK, CAP, place).unwrap();
+        read.extend(session.by_ref().flatten());
+        place = session.place();
+    }
+    assert_eq!(read, self::read(&bytes).0);
 }
 
 /// Each frame's check is made anew, so that the damage is read.
@@ -103,15 +123,14 @@ fn repair(bytes: &mut [u8], mut at: usize) {
 fn a_changed_byte_is_read_or_refused() {
     let bytes = whole();
     let (items, _) = read(&bytes);
-    let first = items[0].0;
     let mut refused = 0;
     for place in 0..bytes.len() {
         for value in [0, 1, 4, 0x20, 0x7f, 0x80, 0xc3, 0xff, bytes[place] ^ 1] {
             let mut changed = bytes.clone();
             changed[place] = value;
-            repair(&mut changed, first);
+            repair(&mut changed, items[0].end());
             let (read, ending) = read(&changed);
-            let before = items.iter().take_while(|(end, _)| *end <= place).count();
+            let before = items.iter().take_while(|item| item.end() <= place).count();
             assert_eq!(read[..before], items[..before]);
             refused += usize::from(ending != Ending::Clean);
         }

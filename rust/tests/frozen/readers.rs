@@ -1,11 +1,10 @@
 //! The readers: of single values, 1 to 5, of entries, handshakes, frames and message bodies, 18 to 32,
-//! and by index with places in a session, 46 to 48. An answer is numbers; the places among them are those of the parts that the crate lends out of
-//! the bytes.
+//! and by index with places in a session, 46 to 48. An answer is numbers; the places among them are
+//! those of the parts that the crate lends out of the bytes.
 
 use crate::cases::Case;
-use haspeljo::{decode, vlq, Entry, Error, Handshake, Message, MessageCode, Network};
+use haspeljo::{decode, vlq, Address, Entry, Error, Handshake, Message, MessageCode, Network};
 use haspeljo::{entry_in_stream, id_in_stream, payload_in_stream};
-use std::net::{IpAddr, SocketAddr};
 use std::ops::Range;
 
 type Numbers = Result<Vec<u64>, Error>;
@@ -33,7 +32,7 @@ fn hidden(function: u8, numbers: &[u64]) -> &'static [usize] {
 pub fn expected(function: u8, answer: &str) -> Numbers {
     let numbers: Vec<u64> = answer.split(' ').map(|word| word.parse().unwrap()).collect();
     let [number, numbers @ ..] = &numbers[..] else { panic!("no numbers") };
-    if let Some(error) = Error::of(*number as u8) {
+    if let Ok(error) = Error::try_from(*number as u8) {
         assert!(numbers.iter().all(|slot| *slot == UNTOUCHED));
         return Err(error);
     }
@@ -75,16 +74,16 @@ fn value(mut case: Case) -> Numbers {
     let at = case.size();
     let count = if case.function == 5 { case.size() } else { 0 };
     let bytes = case.input;
-    let part = |(part, next): (&[u8], usize)| {
+    let part = |part: &[u8], next: usize| {
         let [start, length] = span(bytes, part);
         vec![start, length, next as u64]
     };
     Ok(match case.function {
-        1 => vlq::read_byte(bytes, at).map(|(byte, next)| vec![byte.into(), next as u64])?,
-        2 => vlq::read_vlq(bytes, at).map(|(value, next)| vec![value, next as u64])?,
-        3 => vlq::read_vlq_length(bytes, at).map(|(n, next)| vec![n as u64, next as u64])?,
-        4 => vlq::read_short_string(bytes, at).map(|(text, next)| part((text.as_bytes(), next)))?,
-        _ => part(vlq::read_part(bytes, at, count)?),
+        1 => vlq::read_byte(bytes, at).map(|read| vec![read.value.into(), read.next as u64])?,
+        2 => vlq::read_vlq(bytes, at).map(|read| vec![read.value, read.next as u64])?,
+        3 => vlq::read_vlq_length(bytes, at).map(|n| vec![n.value as u64, n.next as u64])?,
+        4 => vlq::read_short_string(bytes, at).map(|s| part(s.value.as_bytes(), s.next))?,
+        _ => vlq::read_part(bytes, at, count).map(|read| part(read.value, read.next))?,
     })
 }
 
@@ -130,17 +129,18 @@ fn frame(at: usize, network: Network, bytes: &[u8]) -> Numbers {
 fn message(cap: usize, network: Network, code: u8, body: &[u8]) -> Numbers {
     Ok(match Message::from_frame(code, body, cap, network)? {
         Message::GetPeers => vec![0, 0, 0, 0, 0],
-        Message::Peers { bogus, entries } => {
-            let start = |entry: &Entry| place(body, entry.agent().as_bytes()) - 1;
-            list(0, bogus, entries.map(|entry| start(&entry)..entry.end() as u64))
+        Message::Peers { bogus, entries, .. } => {
+            list(0, bogus, entries.map(|entry| entry.start() as u64..entry.end() as u64))
         }
-        Message::ModifierRequest { modifier_type, ids } | Message::Inv { modifier_type, ids } => {
+        Message::ModifierRequest { modifier_type, ids, .. }
+        | Message::Inv { modifier_type, ids, .. } => {
             list(modifier_type, 0, ids.iter().map(|id| place(body, id)..end(body, id)))
         }
-        Message::ModifierResponse { modifier_type, payloads } => {
-            list(modifier_type, 0, payloads.map(|(id, bytes)| place(body, id)..end(body, bytes)))
+        Message::ModifierResponse { modifier_type, payloads, .. } => {
+            list(modifier_type, 0, payloads.map(|p| place(body, p.id)..end(body, p.bytes)))
         }
         Message::SyncInfo(held) | Message::Unknown(held) => vec![0, 0, 0, 0, end(body, held)],
+        other => panic!("{other:?}"),
     })
 }
 
@@ -173,9 +173,9 @@ fn id_by_index(index: usize, body: &[u8]) -> Numbers {
 fn payload_by_index(index: usize, body: &[u8]) -> Numbers {
     let message = Message::from_frame(MessageCode::MODIFIER_RESPONSE, body, 0, Network::Mainnet)?;
     let Message::ModifierResponse { mut payloads, .. } = message else { panic!("{message:?}") };
-    let (id, bytes) = payloads.nth(index).ok_or(Error::Outside)?;
-    let [start, length] = span(body, bytes);
-    Ok(vec![place(body, id), start, length, start + length])
+    let payload = payloads.nth(index).ok_or(Error::Outside)?;
+    let [start, length] = span(body, payload.bytes);
+    Ok(vec![place(body, payload.id), start, length, start + length])
 }
 
 fn in_stream(mut case: Case) -> Option<Numbers> {
@@ -203,7 +203,8 @@ fn range(range: Range<usize>) -> [u64; 2] {
 fn entry_numbers(bytes: &[u8], timestamp: u64, entry: Entry) -> Vec<u64> {
     let mut numbers = vec![timestamp];
     numbers.extend(span(bytes, entry.agent().as_bytes()));
-    numbers.extend([entry.version.major, entry.version.minor, entry.version.patch].map(u64::from));
+    let version = entry.version();
+    numbers.extend([version.major, version.minor, version.patch].map(u64::from));
     numbers.extend(span(bytes, entry.name().as_bytes()));
     numbers.extend(address_numbers(entry.address()));
     numbers.extend([entry.features().len() as u64, entry.end() as u64]);
@@ -211,12 +212,15 @@ fn entry_numbers(bytes: &[u8], timestamp: u64, entry: Entry) -> Vec<u64> {
 }
 
 /// Kind, high and low half, port.
-fn address_numbers(address: Option<SocketAddr>) -> [u64; 4] {
-    let Some(address) = address else { return [0; 4] };
-    let port = address.port().into();
-    match address.ip() {
-        IpAddr::V4(ip) => [4, ip.to_bits().into(), 0, port],
-        IpAddr::V6(ip) => [6, (ip.to_bits() >> 64) as u64, ip.to_bits() as u64, port],
+fn address_numbers(address: Option<Address>) -> [u64; 4] {
+    match address {
+        None => [0; 4],
+        Some(Address::V4(address)) => [4, address.ip().to_bits().into(), 0, address.port().into()],
+        Some(Address::V6(address)) => {
+            let bits = address.ip().to_bits();
+            [6, (bits >> 64) as u64, bits as u64, address.port().into()]
+        }
+        Some(other) => panic!("{other}"),
     }
 }
 

@@ -52,19 +52,13 @@ fn built(out: &mut [u8], at: usize, mut case: Case) -> Option<Result<usize, Erro
     let declared_address = address([case.word(), case.word(), case.word(), case.word()])?;
     let [timestamp, session] = [case.word(), case.word()];
     let [agent, name] = [case.string(), case.string()].map(std::str::from_utf8);
-    let config = HandshakeConfig {
-        agent_name: agent.ok()?,
-        peer_name: name.ok()?,
-        version,
-        network,
-        mode: if light == 0 { ProxyMode::Full } else { ProxyMode::Light },
-        declared_address,
-        state_type_id,
-        verifying: verifying != 0,
-        blocks_to_keep,
-        timestamp,
-        session_id: session as i64,
-    };
+    let (agent, name, session) = (agent.ok()?, name.ok()?, session as i64);
+    let mut config = HandshakeConfig::new(agent, name, version, network, timestamp, session);
+    config.mode = if light == 0 { ProxyMode::Full } else { ProxyMode::Light };
+    config.declared_address = declared_address;
+    config.state_type_id = state_type_id;
+    config.verifying = verifying != 0;
+    config.blocks_to_keep = blocks_to_keep;
     Some(build(out, at, &config))
 }
 
