@@ -1,9 +1,11 @@
-//! Links libb2, and tells the benchmark where the archive of our static library stands.
+//! Links libb2, libsodium and OpenSSL, and tells the benchmark where the archive of our static library stands.
 
 use std::env;
 
 fn main() {
     println!("cargo:rerun-if-changed=build.rs");
-    println!("cargo:rustc-link-lib=b2");
+    for library in ["b2", "sodium", "crypto"] {
+        println!("cargo:rustc-link-lib={library}");
+    }
     println!("cargo:rustc-env=HASPELJO_ARCHIVE={}", env::var("DEP_HASPELJO_ARCHIVE").unwrap());
 }

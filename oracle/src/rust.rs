@@ -206,11 +206,12 @@ fn network(mainnet: u8) -> Network {
     }
 }
 
-/// The six files hold no hash; three implementations must agree on it.
+/// The six files hold no hash; four implementations must agree on it.
 pub fn blake2b256(s: &[u8]) -> Expected {
     let hash = hashes::blake2b_simd(s);
     assert_eq!(hash, hashes::blake2_rfc(s), "blake2-rfc differs from blake2b_simd");
     assert_eq!(hash, hashes::libb2(s), "libb2 differs from blake2b_simd");
+    assert_eq!(hash, hashes::libsodium(s), "libsodium differs from blake2b_simd");
     is(Value::Bytes(hash.to_vec()))
 }
 

@@ -13,12 +13,12 @@ const LONG: f64 = 2_000.0;
 /// The fastest time of each side, ours first.
 pub fn sample(row: &mut Row) -> Vec<f64> {
     let mut fastest = vec![f64::INFINITY; row.sides.len()];
-    let begin = clock();
-    for _ in (0..ROUNDS).take_while(|_| clock() - begin < LONG) {
+    let begin = thread();
+    for _ in (0..ROUNDS).take_while(|_| thread() - begin < LONG) {
         for (side, fastest) in row.sides.iter_mut().zip(&mut fastest) {
-            let start = clock();
+            let start = thread();
             (side.run)();
-            *fastest = fastest.min(clock() - start);
+            *fastest = fastest.min(thread() - start);
         }
     }
     fastest
@@ -30,12 +30,22 @@ pub fn median(mut numbers: Vec<f64>) -> f64 {
 }
 
 /// The milliseconds that this thread has run, whatever other programs run.
-fn clock() -> f64 {
+pub fn thread() -> f64 {
     let mut now = Timespec { seconds: 0, nanoseconds: 0 };
     // SAFETY: `now` is a `struct timespec` of Linux on 64 bits.
     let status = unsafe { clock_gettime(THREAD_CPUTIME, &mut now) };
     assert_eq!(status, 0, "no clock");
     now.seconds as f64 * 1e3 + now.nanoseconds as f64 * 1e-6
+}
+
+/// The milliseconds that programs have run which this one has started and which have ended, the system's with them.
+pub fn children() -> f64 {
+    let zero = Timeval { seconds: 0, microseconds: 0 };
+    let mut usage = Usage { times: [zero; 2], others: [0; 14] };
+    // SAFETY: `usage` is a `struct rusage` of Linux on 64 bits.
+    let status = unsafe { getrusage(CHILDREN, &mut usage) };
+    assert_eq!(status, 0, "no times");
+    usage.times.iter().map(|time| time.seconds as f64 * 1e3 + time.microseconds as f64 * 1e-3).sum()
 }
 
 #[repr(C)]
@@ -46,6 +56,23 @@ struct Timespec {
 
 const THREAD_CPUTIME: c_int = 3;
 
+/// The times of the programs and of the system, then other numbers.
+#[repr(C)]
+struct Usage {
+    times: [Timeval; 2],
+    others: [c_long; 14],
+}
+
+#[repr(C)]
+#[derive(Clone, Copy)]
+struct Timeval {
+    seconds: c_long,
+    microseconds: c_long,
+}
+
+const CHILDREN: c_int = -1;
+
 extern "C" {
     fn clock_gettime(clock: c_int, now: *mut Timespec) -> c_int;
+    fn getrusage(who: c_int, usage: *mut Usage) -> c_int;
 }

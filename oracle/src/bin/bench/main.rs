@@ -3,7 +3,9 @@
 mod clock;
 mod memory;
 mod readings;
+mod report;
 mod rows;
+mod through;
 mod values;
 mod writings;
 
@@ -26,11 +28,13 @@ fn main() -> ExitCode {
     if env::var_os(MALLOC).is_some() {
         return again();
     }
-    let mut rows: Vec<Row> = readings::rows().into_iter().chain(writings::rows()).collect();
+    let mut rows: Vec<Row> =
+        [readings::rows(), writings::rows(), through::rows()].into_iter().flatten().collect();
     let samples = samples(&mut rows);
     let mut above: Vec<String> =
         rows.iter().zip(&samples).flat_map(|(row, samples)| row.report(samples)).collect();
     above.extend(growth(&rows, &samples));
+    above.extend(report::beside_walk().err());
     above.extend(memory::resident().err());
     above.extend(memory::symbols().err());
     println!();

@@ -2,10 +2,11 @@
 
 use crate::rows::{Row, Side, HALF, ONE_READING};
 use crate::values::{self, ENTRIES, MAINNET};
+use oracle::hashes::{self, OpenSsl};
+use oracle::ours;
 use oracle::ours::entries::{entry_at, parsed};
 use oracle::ours::messages::{opened, payload_at};
 use oracle::ours::sessions::stepped;
-use oracle::{hashes, ours};
 use p2p::protocol::address_sanity::is_bogus_address;
 use p2p::protocol::messages::{build_peers_body, parse_peers_body, ProtocolMessage};
 use p2p::transport::frame::{decode, encode, Frame};
@@ -17,8 +18,8 @@ use std::rc::Rc;
 
 pub fn rows() -> Vec<Row> {
     vec![
-        hash("hash of 16 MiB", [1.12, 1.0], 16 << 20, 1),
-        hash("hash of 100 bytes", [1.0, 1.0], 100, 20_000),
+        hash("hash of 16 MiB", [1.12, 1.0, 1.0, 1.0], 16 << 20, 1),
+        hash("hash of 100 bytes", [1.0; 4], 100, 20_000),
         handshake(20_000),
         first_step(20_000),
         peers(400),
@@ -26,33 +27,42 @@ pub fn rows() -> Vec<Row> {
         response(1),
         frame("decode of 100 bytes", 100, 20_000),
         frame("decode of 64 KiB", 64 << 10, 50),
-        session("session of 64 KiB", 64 << 10, 50),
-        session("session of 1 MiB", MIB, 4),
-        session("session of 4 MiB", 4 * MIB, 1),
-        session("session of 16 MiB", 16 * MIB, 1),
-        session("session of 64 MiB", 64 * MIB, 1),
+        steps("session of 64 KiB", 64 << 10, 50),
+        steps("session of 1 MiB", MIB, 4),
+        steps("session of 4 MiB", 4 * MIB, 1),
+        steps("session of 16 MiB", 16 * MIB, 1),
+        steps("session of 64 MiB", 64 * MIB, 1),
     ]
 }
 
 const MIB: usize = 1 << 20;
 
-fn hash(name: &'static str, [libb2, rfc]: [f64; 2], length: usize, calls: usize) -> Row {
+/// Beside libb2, blake2-rfc, libsodium and OpenSSL, with a bound of each.
+fn hash(name: &'static str, bounds: [f64; 4], length: usize, calls: usize) -> Row {
     let data: Rc<[u8]> = (0..length).map(|i| (i * 31) as u8).collect();
-    let side = |name, bound, hash: fn(&[u8]) -> [u8; 32]| {
-        let data = data.clone();
-        let run = move || {
-            for _ in 0..calls {
-                black_box(hash(black_box(&data)));
-            }
-        };
-        Side::new(name, bound, run)
-    };
+    let [libb2, rfc, sodium, openssl] = bounds.map(Some);
+    let mut context = OpenSsl::blake2b512();
     let sides = vec![
-        side("ours", None, ours::blake2b256),
-        side("libb2", Some(libb2), hashes::libb2),
-        side("blake2-rfc", Some(rfc), hashes::blake2_rfc),
+        Side::new("ours", None, hashing(&data, calls, ours::blake2b256)),
+        Side::new("libb2", libb2, hashing(&data, calls, hashes::libb2)),
+        Side::new("blake2-rfc", rfc, hashing(&data, calls, hashes::blake2_rfc)),
+        Side::new("libsodium", sodium, hashing(&data, calls, hashes::libsodium)),
+        Side::new("OpenSSL", openssl, hashing(&data, calls, move |s| context.hash(s))),
     ];
     Row::new(name, sides)
+}
+
+fn hashing<T, F: FnMut(&[u8]) -> T>(
+    data: &Rc<[u8]>,
+    calls: usize,
+    mut hash: F,
+) -> impl FnMut() + use<T, F> {
+    let data = data.clone();
+    move || {
+        for _ in 0..calls {
+            black_box(hash(black_box(&data)));
+        }
+    }
 }
 
 /// Both sides' readings of the same value, so many times.
@@ -167,14 +177,23 @@ fn frame(name: &'static str, length: usize, calls: usize) -> Row {
     Row::hashing(name, ours, rust)
 }
 
-/// The walk over a session of at least so many bytes.
-fn session(name: &'static str, length: usize, calls: usize) -> Row {
+/// The walk over a session of at least so many bytes, by its steps alone.
+fn steps(name: &'static str, length: usize, calls: usize) -> Row {
     let bytes = values::session(length).bytes;
     let mib = (calls * bytes.len()) as f64 / MIB as f64;
-    let ours = |s: &[u8]| assert!(ours::sessions::items(s, MAINNET, ENTRIES) > 1);
-    let rust = |s: &[u8]| assert!(items(s) > 1);
-    let [ours, rust] = both(calls, bytes, ours, rust);
-    Row { mib: (length >= MIB).then_some(mib), ..Row::hashing(name, ours, rust) }
+    let row = session(name, bytes, calls, |s| ours::sessions::items(s, MAINNET, ENTRIES));
+    Row { mib: (length >= MIB).then_some(mib), ..row }
+}
+
+/// A session, of which each side tells how many items there are.
+pub fn session(name: &'static str, bytes: Vec<u8>, calls: usize, ours: fn(&[u8]) -> u64) -> Row {
+    assert_eq!(ours(&bytes), items(&bytes));
+    let bytes: Rc<[u8]> = bytes.into();
+    let [ours, rust] = [ours, items].map(|items| {
+        let bytes = bytes.clone();
+        move || (0..calls).for_each(|_| assert!(items(black_box(&bytes)) > 1))
+    });
+    Row::hashing(name, ours, rust)
 }
 
 /// The walk put together from the Rust's functions: how many items there are.

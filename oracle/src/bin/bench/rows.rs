@@ -73,16 +73,21 @@ impl Row {
         Row::new(name, [ours].into_iter().chain(others).collect())
     }
 
-    /// Prints the medians of the samples: what passed its bound. A ratio is rounded to two decimals
-    /// before it is held against the bound, so that equal code does not fail by the clock's noise.
+    /// The row with our side named so.
+    pub fn named(mut self, ours: &'static str) -> Row {
+        self.sides[0].name = ours;
+        self
+    }
+
+    /// Prints the medians of the samples: what passed its bound.
     pub fn report(&self, samples: &[Vec<f64>]) -> Vec<String> {
         let mut above = vec![];
         println!("{}:", self.name);
         println!("  {:<18} {:8.3} ms", self.sides[0].name, time(samples, 0));
         for (i, side) in self.sides.iter().enumerate().skip(1) {
             let ratio = median(samples.iter().map(|sample| sample[0] / sample[i]).collect());
-            let ratio = (ratio * 100.0).round() / 100.0;
-            let mut line = format!("ours to it {ratio:.2}");
+            let ratio = rounded(ratio);
+            let mut line = format!("{} to it {ratio:.2}", self.sides[0].name);
             if let Some(bound) = side.bound {
                 line += &format!(", at most {bound:.2}");
                 if ratio > bound {
@@ -94,6 +99,11 @@ impl Row {
         }
         above
     }
+}
+
+/// To two decimals, as a ratio is held against its bound, so that equal code does not fail by the clock's noise.
+pub fn rounded(ratio: f64) -> f64 {
+    (ratio * 100.0).round() / 100.0
 }
 
 /// The median of a side's times.

@@ -12,10 +12,10 @@ use std::net::SocketAddr;
 
 pub const ENTRIES: usize = 64;
 pub const MAINNET: u8 = 1;
+pub const HEADERS: u8 = 101;
+pub const TIMESTAMP: u64 = 1_763_200_000_000;
 const IDS: usize = 400;
 const PAYLOAD: usize = 20_000;
-const HEADERS: u8 = 101;
-const TIMESTAMP: u64 = 1_763_200_000_000;
 
 /// Into an output from a place: where it ends.
 type Put = dyn Fn(&mut [u8], usize) -> usize;
@@ -54,13 +54,15 @@ pub fn handshake() -> Writing {
     let lent = lent(std::slice::from_ref(&spec));
     Writing::new(
         move |out, at, r| put_handshake(out, at, TIMESTAMP, &lent, 0, r),
-        move || {
-            let mut bytes = Vec::with_capacity(128);
-            write_vlq(&mut bytes, TIMESTAMP);
-            serialize_peer_entry(&spec, &mut bytes);
-            bytes
-        },
+        move || handshake_of(&spec),
     )
+}
+
+pub fn handshake_of(spec: &PeerSpec) -> Vec<u8> {
+    let mut bytes = Vec::with_capacity(128);
+    write_vlq(&mut bytes, TIMESTAMP);
+    serialize_peer_entry(spec, &mut bytes);
+    bytes
 }
 
 pub fn peers() -> Writing {
@@ -73,7 +75,7 @@ pub fn peers() -> Writing {
 }
 
 pub fn inv() -> Writing {
-    let ids: Vec<ModifierId> = (0..IDS).map(id).collect();
+    let ids = ids();
     let buffer = ids.concat();
     let table: Vec<u32> = (0..IDS as u32).map(|i| 32 * i).collect();
     let message = ProtocolMessage::Inv { modifier_type: HEADERS, ids };
@@ -89,13 +91,11 @@ pub fn inv() -> Writing {
 /// So many payloads of 20,000 bytes.
 pub fn response(count: usize) -> Writing {
     let (mut table, mut buffer) = (vec![], Buffer::default());
-    let mut modifiers = vec![];
-    for i in 0..count {
-        let (id, bytes) = (id(i), vec![i as u8; PAYLOAD]);
-        let [place, _] = buffer.put(&id);
+    let modifiers = modifiers(count);
+    for (id, bytes) in &modifiers {
+        let [place, _] = buffer.put(id);
         table.push(place);
-        table.extend(buffer.put(&bytes));
-        modifiers.push((id, bytes));
+        table.extend(buffer.put(bytes));
     }
     let message = ProtocolMessage::ModifierResponse { modifier_type: HEADERS, modifiers };
     Writing::frame(
@@ -144,7 +144,7 @@ pub fn peer_list() -> Vec<PeerSpec> {
 }
 
 /// A peer as nodes of the network tell of one.
-fn peer(number: u8) -> PeerSpec {
+pub fn peer(number: u8) -> PeerSpec {
     let url = b"\x1fhttp://203.0.113.57:9053/api/v1";
     let feature = |id, body: &[u8]| Feature { id, body: body.to_vec() };
     PeerSpec {
@@ -158,6 +158,15 @@ fn peer(number: u8) -> PeerSpec {
             feature(4, url),
         ],
     }
+}
+
+pub fn ids() -> Vec<ModifierId> {
+    (0..IDS).map(id).collect()
+}
+
+/// So many ids, each with 20,000 bytes.
+pub fn modifiers(count: usize) -> Vec<(ModifierId, Vec<u8>)> {
+    (0..count).map(|i| (id(i), vec![i as u8; PAYLOAD])).collect()
 }
 
 fn id(number: usize) -> ModifierId {

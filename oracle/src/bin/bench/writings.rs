@@ -7,7 +7,7 @@ use std::rc::Rc;
 
 pub fn rows() -> Vec<Row> {
     vec![
-        handshake(20_000),
+        handshake("write of a handshake", 20_000, values::handshake()),
         message("write of Peers of 64 entries", 400, values::peers()),
         message("write of Inv of 400 ids", 200, values::inv()),
         message("write of Response of 8 MB", 1, values::response(400)),
@@ -17,12 +17,12 @@ pub fn rows() -> Vec<Row> {
 }
 
 /// Our side asks every question before the first byte, the Rust asks none.
-fn handshake(calls: usize) -> Row {
-    let writing = Rc::new(values::handshake());
-    Row::plain("write of a handshake", WHOLE, ours(calls, &writing), rust(calls, &writing))
+pub fn handshake(name: &'static str, calls: usize, writing: Writing) -> Row {
+    let writing = Rc::new(writing);
+    Row::plain(name, WHOLE, ours(calls, &writing), rust(calls, &writing))
 }
 
-fn message(name: &'static str, calls: usize, writing: Writing) -> Row {
+pub fn message(name: &'static str, calls: usize, writing: Writing) -> Row {
     let writing = Rc::new(writing);
     Row::hashing(name, ours(calls, &writing), rust(calls, &writing))
 }
