@@ -11,11 +11,11 @@ use Rattle.types.specs.declared.BodyPlace.{BodyPlace}
 use Rattle.types.specs.declared.StreamPlace.{StreamPlace}
 use Rattle.handshake_read.specs.declared.PeerSpec.{PeerSpec}
 use Rattle.handshake_read.specs.declared.Handshake.{Handshake}
-use Rattle.messages_inventory_response_read.specs.declared.Inventory.{Inventory}
-use Rattle.messages_inventory_response_read.specs.declared.Payload.{Payload}
+use Rattle.messages_inventory_read.specs.declared.Inventory.{Inventory}
+use Rattle.messages_response_read.specs.declared.Payload.{Payload}
+use Rattle.messages_peers_read.specs.declared.Peers.{Peers}
 use Rattle.messages_read.specs.declared.Message.{Message}
 use Rattle.messages_read.specs.declared.Message.the-variants as Messages
-use Rattle.messages_read.specs.declared.Peers.{Peers}
 use Rattle.walk_read.specs.declared.Layer.{Layer}
 use Rattle.walk_read.specs.declared.Layer.the-variants as Layers
 use Rattle.walk_read.specs.declared.StepRead.{StepRead}

@@ -2,8 +2,8 @@
 use Prim.Native.Nat.{ℕ}
 use mathlib.Core.List.{List, [], _∷_}
 use Rattle.types.specs.declared.StreamPlace.{StreamPlace}
-use Rattle.messages_inventory_response_read.specs.declared.Inventory.{Inventory}
-use Rattle.messages_inventory_response_read.specs.declared.Payload.{Payload}
+use Rattle.messages_inventory_read.specs.declared.Inventory.{Inventory}
+use Rattle.messages_response_read.specs.declared.Payload.{Payload}
 use Rattle.messages_read.specs.declared.Message.{Message}
 use Rattle.messages_read.specs.declared.Message.the-variants.{GetPeers, Peers, ModifierRequest, ModifierResponse, Inv, SyncInfo, Unknown}
 use Rattle.walk_by_index.specs.declared.StreamPayload.{StreamPayload}

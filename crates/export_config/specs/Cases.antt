@@ -18,7 +18,7 @@ pub record Case (A : Type 0) : Type 0 where
   pub computed : A
   pub is : A
 
-abbrev case : {A : Type 0} → A → A → Case A
+abbrev pub case : {A : Type 0} → A → A → Case A
 case c i = record { computed = c; is = i }
 
 -- ---- `configFrom`
@@ -27,7 +27,7 @@ case c i = record { computed = c; is = i }
 abbrev from : Network → ℕ → ℕ → ℕ → ℕ → ℕ → Config
 from network light verifying kind high low = configFrom network light 20 verifying (pos 21) 22 23 24 kind high low 25 26 (negsuc 27)
 
-abbrev config : Network → ProxyMode → Bool → Address → Config
+abbrev pub config : Network → ProxyMode → Bool → Address → Config
 config network mode verifying address =
     record {
       network = network;

@@ -25,8 +25,8 @@ pub record Case : Type 0 where
   pub modeBody : List ℕ
   pub sessionBody : List ℕ
 
-unfoldable pub configOf : Case → Config
-configOf c =
+unfoldable pub caseConfig : Case → Config
+caseConfig c =
     record {
       network = c .network;
       mode = c .mode;
@@ -65,10 +65,10 @@ cases =
     }
     ∷ []
 
-pub all-modes : map (λ (c : Case). modeFeature (configOf c)) cases ≡ map {B = FeatureValue} (λ (c : Case). record { id = 16; body = c .modeBody }) cases
-unfolding cases configOf modeFeature nipopow vlqBytes vlqIn zigzagEncode
+pub all-modes : map (λ (c : Case). modeFeature (caseConfig c)) cases ≡ map {B = FeatureValue} (λ (c : Case). record { id = 16; body = c .modeBody }) cases
+unfolding cases caseConfig modeFeature nipopow vlqBytes vlqIn zigzagEncode
 all-modes = refl
 
-pub all-sessions : map (λ (c : Case). sessionFeature (configOf c)) cases ≡ map {B = FeatureValue} (λ (c : Case). record { id = 3; body = c .sessionBody }) cases
-unfolding cases configOf sessionFeature vlqBytes vlqIn zigzagEncode
+pub all-sessions : map (λ (c : Case). sessionFeature (caseConfig c)) cases ≡ map {B = FeatureValue} (λ (c : Case). record { id = 3; body = c .sessionBody }) cases
+unfolding cases caseConfig sessionFeature vlqBytes vlqIn zigzagEncode
 all-sessions = refl

@@ -5,7 +5,7 @@ use mathlib.Core.Path.{_≡_, refl, sym, ap, _∙_}
 use Rattle.wire.specs.Reader.{Answer, got, refused}
 use Rattle.wire.specs.Output.{outputAfter}
 use Rattle.wire.specs.declared.Written.{Written}
-use Rattle.messages_read.specs.declared.Peers.{Peers}
+use Rattle.messages_peers_read.specs.declared.Peers.{Peers}
 use Rattle.messages_read.specs.declared.Message.the-variants as Messages
 use Rattle.export_arrays.specs.Messages.{messageNumbers}
 use Rattle.haspeljo.specs.Results.{numberOf, arrayAfter, ReaderLeaves, writtenNumber, endAfter, Writer, WriterLeaves}

@@ -16,50 +16,26 @@ use Rattle.vlq_utf8.specs.Utf8 as Utf8
 use Rattle.vlq_utf8.specs.Utf8.{leadIn, leadOf, utf8From, utf8}
 use Rattle.vlq.specs.Vlq.{vlqIn, vlqBytes}
 use Rattle.vlq_zigzag.specs.Zigzag.{zigzagEncode}
-use Rattle.types.specs.declared.Network.{Network}
 use Rattle.types.specs.declared.Network.the-variants.{Mainnet, Testnet}
-use Rattle.types.specs.declared.ProxyMode.{ProxyMode}
 use Rattle.types.specs.declared.ProxyMode.the-variants.{Full, Light}
-use Rattle.types.specs.declared.Address.{Address}
-use Rattle.types.specs.declared.Address.the-variants.{None, V4, V6}
+use Rattle.types.specs.declared.Address.the-variants.{None, V6}
 use Rattle.handshake.specs.Value.{addressBytes, featureBytes, versionBytes, entryBytes, handshakeBytes, shortStrings, utf8Strings, fewFeatures, lengthsWithin, entriesAsked}
 use Rattle.handshake.specs.Writes.{nipopow, modeFeature, sessionFeature, built}
 use Rattle.handshake_build.specs.declared.Config.{Config}
 use Rattle.handshake_build.specs.Parts.{configOf}
 use Rattle.frame_read.specs.declared.Frame.{Frame}
 use Rattle.export_arrays.specs.Networks.{networkOf}
+use Rattle.export_config.specs.Cases.{Case, case, config}
 use Rattle.export_config.specs.Configs.{isSet, modeOf, addressFrom, addressNumbers}
 use Rattle.haspeljo.specs.Results.{numberOf, arrayAfter, valueNext, partNext, writtenNumber, endAfter, bit}
 use Rattle.haspeljo.specs.Frames.{frameNext}
 use Rattle.haspeljo.specs.Configs.{builtFrom, builtFromWritten}
-
--- what is computed, and what it is by hand
-pub record Case (A : Type 0) : Type 0 where
-  pub computed : A
-  pub is : A
-
-abbrev case : {A : Type 0} → A → A → Case A
-case c i = record { computed = c; is = i }
 
 -- ---- `builtFrom`
 
 -- of mainnet, light, verifying; kind, high and low half of the address
 abbrev from : ℕ → ℕ → ℕ → ℕ → ℕ → ℕ → Config
 from mainnet light verifying kind high low = builtFrom mainnet light 20 verifying (pos 21) 22 23 24 kind high low 25 26 (negsuc 27)
-
-abbrev config : Network → ProxyMode → Bool → Address → Config
-config network mode verifying address =
-    record {
-      network = network;
-      mode = mode;
-      «state_type_id» = 20;
-      verifying = verifying;
-      «blocks_to_keep» = pos 21;
-      version = record { major = 22; minor = 23; patch = 24 };
-      address = address;
-      timestamp = 26;
-      session = negsuc 27;
-    }
 
 unfoldable pub configs : List (Case Config)
 configs =

@@ -3,9 +3,11 @@ ghost use lib.ListN.{length};
 ghost use Rattle.wire.specs.Reader.{mapAnswer};
 ghost use Rattle.handshake_read.specs.Answers.{peerSpecOf};
 ghost use Rattle.messages.specs.Message.{payloadAfter, peersBody, message};
-ghost use Rattle.messages_inventory_response_read.specs.Parts.{idAt, payloadAt};
-ghost use Rattle.messages_inventory_response_read.specs.Answers.{idOf, payloadOf, payloadSum};
-ghost use Rattle.messages_read.specs.Parts.{entryAt};
+ghost use Rattle.messages_inventory_read.specs.Parts.{idAt};
+ghost use Rattle.messages_response_read.specs.Parts.{payloadAt};
+ghost use Rattle.messages_inventory_read.specs.Answers.{idOf};
+ghost use Rattle.messages_response_read.specs.Answers.{payloadOf, payloadSum};
+ghost use Rattle.messages_peers_read.specs.Parts.{entryAt};
 ghost use Rattle.messages_read.specs.Answers.{messageOf};
 ghost use Rattle.export_arrays.specs.Networks.{networkOf};
 ghost use Rattle.export_arrays.specs.Entries.{entryNext};
@@ -13,12 +15,12 @@ ghost use Rattle.export_arrays.specs.Messages.{messageNumbers, idOnly, payloadN
 ghost use Rattle.haspeljo.specs.Results.{ReaderLeaves};
 use export_arrays::bodies::message_numbers;
 use export_arrays::entries::entry_numbers;
-use messages_inventory_response_read::IdRead;
-use messages_inventory_response_read::PayloadByIndexRead;
-use messages_inventory_response_read::PayloadRead;
+use messages_inventory_read::IdRead;
+use messages_peers_read::PeerEntryRead;
+use messages_peers_read::PeersRead;
 use messages_read::MessageRead;
-use messages_read::PeerEntryRead;
-use messages_read::PeersRead;
+use messages_response_read::PayloadByIndexRead;
+use messages_response_read::PayloadRead;
 use types::BodyPlace;
 
 // The body of a frame as the message of the frame's code. r is the type byte, the count, how many entries have a bogus address, and the place
@@ -54,7 +56,7 @@ pub extern "C" fn haspeljo_parse_peers_body(
     ensures { λ n. ⌜ ReaderLeaves messageNumbers (mapAnswer (messageOf (networkOf mainnet) (now (body .entry))) (peersBody cap (now (body .entry)) 0)) n
         (now (r .entry)) (now (r .exit)) ⌝ }
 {
-    match messages_read::parse_peers_body(body, cap, crate::network_of(mainnet)) {
+    match messages_peers_read::parse_peers_body(body, cap, crate::network_of(mainnet)) {
         PeersRead::Value(p, next) => {
             *r = [
                 0,
@@ -80,7 +82,7 @@ pub extern "C" fn haspeljo_entry_by_index(
     ensures { λ n. ⌜ ReaderLeaves entryNext (mapAnswer peerSpecOf (entryAt cap index (now (body .entry)))) n
         (now (r .entry)) (now (r .exit)) ⌝ }
 {
-    match messages_read::entry_by_index(body, cap, index) {
+    match messages_peers_read::entry_by_index(body, cap, index) {
         PeerEntryRead::Value(peer, next) => {
             *r = entry_numbers(0, peer, next.0);
             0
@@ -94,7 +96,7 @@ pub extern "C" fn haspeljo_entry_by_index(
 pub extern "C" fn haspeljo_id_by_index(body: &[u8], index: usize, r: &mut [u64; 1]) -> u8
     ensures { λ n. ⌜ ReaderLeaves idOnly (mapAnswer idOf (idAt index (now (body .entry)))) n (now (r .entry)) (now (r .exit)) ⌝ }
 {
-    match messages_inventory_response_read::id_by_index(body, index) {
+    match messages_inventory_read::id_by_index(body, index) {
         IdRead::Value(p) => {
             *r = [p.0 as u64];
             0
@@ -115,7 +117,7 @@ pub extern "C" fn haspeljo_read_payload(
     ensures { λ n. ⌜ ReaderLeaves payloadTotal (mapAnswer (payloadSum total) (payloadAfter (length (now (body .entry))) total (now (body .entry)) at)) n
         (now (r .entry)) (now (r .exit)) ⌝ }
 {
-    match messages_inventory_response_read::read_payload(body, BodyPlace(at), total) {
+    match messages_response_read::read_payload(body, BodyPlace(at), total) {
         PayloadRead::Value(p, next, sum) => {
             *r = [
                 p.id.0 as u64,
@@ -136,7 +138,7 @@ pub extern "C" fn haspeljo_payload_by_index(body: &[u8], index: usize, r: &mut [
     ensures { λ n. ⌜ ReaderLeaves payloadNext (mapAnswer payloadOf (payloadAt index (now (body .entry)))) n
         (now (r .entry)) (now (r .exit)) ⌝ }
 {
-    match messages_inventory_response_read::payload_by_index(body, index) {
+    match messages_response_read::payload_by_index(body, index) {
         PayloadByIndexRead::Value(p, next) => {
             *r = [p.id.0 as u64, p.start.0 as u64, p.len as u64, next.0 as u64];
             0

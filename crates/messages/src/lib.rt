@@ -1,5 +1,5 @@
-// Message bodies: their definitions and laws, in specs/. Readers stand in messages_inventory_response_read and messages_read, writers in messages_opaque_write,
-// messages_inventory_write, messages_response_write and messages_peers_write.
+// Message bodies: their definitions and laws, in specs/. Readers stand in messages_inventory_read, messages_response_read, messages_peers_read and messages_read, writers
+// in messages_opaque_write, messages_inventory_write, messages_response_write and messages_peers_write.
 
 // Codes of messages.
 pub const GET_PEERS: u8 = 1;

@@ -1,37 +1,20 @@
--- What is given of a body, from what its parts answered.
+-- What is given of the messages of 22, 33 and 55, from what the readers of their bodies answered.
 use Prim.Native.Nat.{ℕ}
 use mathlib.Core.List.{List}
 use mathlib.Core.Path.{_≡_}
 use lib.ListN.{length}
-use Rattle.wire.specs.Reader.{got, refused, Segment, part, listOf, mapAnswer}
+use Rattle.wire.specs.Reader.{got, refused, Segment, part, mapAnswer}
 use Rattle.wire.specs.ReaderLaws.{map-value, map-refusal}
-use Rattle.wire.specs.ListOfLaws.{listed}
 use Rattle.types.specs.declared.Network.{Network}
-use Rattle.handshake.specs.Entry.{Entry, entry}
 use Rattle.messages.specs.Message as Bodies
-use Rattle.messages.specs.Message.{modifierRequest, inv, count, ids, payload, payloads, peersBody}
-use Rattle.messages.specs.Bogus.{bogusCount}
-use Rattle.messages_inventory_response_read.specs.declared.Inventory.{Inventory}
-use Rattle.messages_inventory_response_read.specs.Answers.{inventoryIn}
-use Rattle.messages_inventory_response_read.specs.Parts.{Items, items}
-use Rattle.messages_inventory_response_read.specs.PartsLaws.{ids-items, payloads-items}
-use Rattle.messages_read.specs.PartsLaws.{entries-start}
+use Rattle.messages.specs.Message.{modifierRequest, inv, ids, payload, payloads}
+use Rattle.messages_inventory_read.specs.declared.Inventory.{Inventory}
+use Rattle.messages_inventory_read.specs.Answers.{inventoryIn}
+use Rattle.messages_inventory_read.specs.Parts.{Items, items}
+use Rattle.messages_inventory_read.specs.PartsLaws.{ids-items}
+use Rattle.messages_response_read.specs.PartsLaws.{payloads-items}
 use Rattle.messages_read.specs.Answers.{messageOf}
 use Rattle.messages_read.specs.declared.Message.the-variants as Messages
-
--- ---- Peers
-
-module _ (network : Network) (cap : ℕ) (s : List ℕ) {n at : ℕ} (q : count cap s 0 ≡ got n at) where
-  pub peers-got : {l : List Entry} {b e : ℕ} → listOf n (λ before. entry) s at ≡ got l e → bogusCount network l ≡ b
-      → got (Messages.Peers (record { count = n; bogus = b; start = record { 0 = at } })) e ≡ mapAnswer (messageOf network s) (peersBody cap s 0)
-  unfolding peersBody
-  peers-got {l} {b} {e} r f = rw (q, r, map-value, entries-start cap s q, f, listed (λ before. entry) s n at r .0)
-
-  pub peers-refused : {m : ℕ} → listOf n (λ before. entry) s at ≡ refused m → refused m ≡ mapAnswer (messageOf network s) (peersBody cap s 0)
-  unfolding peersBody
-  peers-refused r = rw (q, r, map-refusal)
-
--- ---- the messages of 22, 33 and 55
 
 module _ (network : Network) (s : List ℕ) where
   module _ {i : Items Segment} {e : ℕ} (q : items (λ before. part 32) s 0 ≡ got i e) {v : Inventory} (f : inventoryIn s i ≡ v) where

@@ -1,2 +1,1 @@
-pub mod BogusLoop
 pub mod AnswerLaws

@@ -1,6 +1,4 @@
-pub mod Parts
 pub mod Answers
-pub mod PartsLaws
+pub mod AnswersLaws
 pub mod Values
 pub mod ValuesLaws
-pub mod Cases

@@ -4,24 +4,18 @@ use Prim.Native.Nat.{ℕ}
 use mathlib.Core.List.{List}
 use mathlib.Core.Path.{_≡_}
 use lib.ListN.{length}
-use Rattle.wire.specs.Reader.{got, Reader, Segment, part, listOf, mapAnswer}
-use Rattle.handshake.specs.ByIndex.{byIndex}
+use Rattle.wire.specs.Reader.{got, Reader, Segment, part, listOf}
 use Rattle.handshake.specs.Entry.{Entry, entry}
-use Rattle.handshake.specs.Value.{EntryValue}
-use Rattle.handshake_read.specs.Answers.{peerSpecOf}
-use Rattle.handshake_read.specs.Values.{peerGiven}
 use Rattle.messages.specs.Message as Bodies
 use Rattle.messages.specs.Message.{payload}
 use Rattle.messages.specs.Value.{MessageValue, getPeersValue, peersValue, modifierRequestValue, modifierResponseValue, invValue, syncInfoValue, unknownValue}
-use Rattle.messages_inventory_response_read.specs.Values.{idsGiven, payloadsGiven}
-use Rattle.messages_inventory_response_read.specs.declared.Inventory.{Inventory}
-use Rattle.messages_read.specs.Parts.{entryAt}
-use Rattle.messages_read.specs.declared.Peers.{Peers}
+use Rattle.messages_inventory_read.specs.Values.{idsGiven}
+use Rattle.messages_response_read.specs.Values.{payloadsGiven}
+use Rattle.messages_inventory_read.specs.declared.Inventory.{Inventory}
+use Rattle.messages_peers_read.specs.Values.{peersGiven}
+use Rattle.messages_peers_read.specs.declared.Peers.{Peers}
 use Rattle.messages_read.specs.declared.Message.{Message}
 use Rattle.messages_read.specs.declared.Message.the-variants as Messages
-
-unfoldable pub peersGiven : ℕ → List ℕ → ℕ → List EntryValue
-peersGiven cap body n = byIndex (peerGiven body) (λ k. mapAnswer peerSpecOf (entryAt cap k body)) n
 
 -- SyncInfo and Unknown are the whole body as it is
 unfoldable pub messageGiven : ℕ → ℕ → List ℕ → Message → MessageValue

@@ -15,9 +15,10 @@ use Rattle.types.specs.declared.StreamPlace.{StreamPlace}
 use Rattle.frame_read.specs.declared.StreamPart.{StreamPart}
 use Rattle.handshake.specs.Entry.{version, addressIf, feature, entry}
 use Rattle.messages.specs.Message.{count, inventoryHeader, total, payloadAfter, payload}
-use Rattle.messages_inventory_response_read.specs.Parts.{items, itemsStart, itemByIndex, itemAt, idAt, payloadAt}
-use Rattle.messages_read.specs.Parts.{entries, entriesStart, entryAt}
-use Rattle.walk_by_index.specs.InStream.{isInside, inStream, entryPlaces, idPlaces, payloadPlaces, fromBody, entryInStream, idInStream, payloadInStream}
+use Rattle.messages_inventory_read.specs.Parts.{items, itemsStart, itemByIndex, itemAt, idAt}
+use Rattle.messages_response_read.specs.Parts.{payloadAt}
+use Rattle.messages_peers_read.specs.Parts.{entries, entriesStart, entryAt}
+use Rattle.walk_by_index.specs.InStream.{isInside, inStream, entryToStream, idToStream, payloadToStream, fromBody, entryInStream, idInStream, payloadInStream}
 use Rattle.walk_by_index.specs.declared.StreamEntry.{StreamEntry}
 use Rattle.walk_by_index.specs.declared.StreamPayload.{StreamPayload}
 
@@ -75,7 +76,7 @@ entryCases =
     ∷ []
 
 pub entry-cases : Holds entryCases
-unfolding entryCases entryInStream entryPlaces fromBody isInside inStream located mapAnswer entryAt entries entriesStart itemByIndex count fold listOf groups vlq vlqLength string shortString utf8From utf8 leadOf leadIn Utf8.leadRows version addressIf feature entry
+unfolding entryCases entryInStream entryToStream fromBody isInside inStream located mapAnswer entryAt entries entriesStart itemByIndex count fold listOf groups vlq vlqLength string shortString utf8From utf8 leadOf leadIn Utf8.leadRows version addressIf feature entry
 entry-cases = refl
 
 -- ---- ids and payloads
@@ -94,7 +95,7 @@ idCases =
     ∷ []
 
 pub id-cases : Holds idCases
-unfolding idCases idInStream idPlaces fromBody isInside inStream located mapAnswer idAt itemAt itemByIndex items itemsStart inventoryHeader count fold listOf groups vlq vlqLength
+unfolding idCases idInStream idToStream fromBody isInside inStream located mapAnswer idAt itemAt itemByIndex items itemsStart inventoryHeader count fold listOf groups vlq vlqLength
 id-cases = refl
 
 -- a type byte, two payloads: of no bytes, and of three
@@ -110,5 +111,5 @@ payloadCases =
     ∷ []
 
 pub payload-cases : Holds payloadCases
-unfolding payloadCases payloadInStream payloadPlaces fromBody isInside inStream located mapAnswer payloadAt itemAt itemByIndex items itemsStart inventoryHeader count total payloadAfter payload fold listOf groups vlq vlqLength
+unfolding payloadCases payloadInStream payloadToStream fromBody isInside inStream located mapAnswer payloadAt itemAt itemByIndex items itemsStart inventoryHeader count total payloadAfter payload fold listOf groups vlq vlqLength
 payload-cases = refl

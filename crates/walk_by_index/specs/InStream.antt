@@ -14,10 +14,12 @@ use Rattle.handshake_read.specs.Answers.{peerSpecOf}
 use Rattle.handshake_read.specs.declared.PeerSpec.{PeerSpec}
 use Rattle.frame_read.specs.Answers.{partIn}
 use Rattle.frame_read.specs.declared.StreamPart.{StreamPart}
-use Rattle.messages_inventory_response_read.specs.Answers.{idOf, payloadOf}
-use Rattle.messages_inventory_response_read.specs.Parts.{idAt, payloadAt}
-use Rattle.messages_inventory_response_read.specs.declared.Payload.{Payload}
-use Rattle.messages_read.specs.Parts.{entryAt}
+use Rattle.messages_inventory_read.specs.Answers.{idOf}
+use Rattle.messages_response_read.specs.Answers.{payloadOf}
+use Rattle.messages_inventory_read.specs.Parts.{idAt}
+use Rattle.messages_response_read.specs.Parts.{payloadAt}
+use Rattle.messages_response_read.specs.declared.Payload.{Payload}
+use Rattle.messages_peers_read.specs.Parts.{entryAt}
 use Rattle.walk_by_index.specs.declared.StreamEntry.{StreamEntry}
 use Rattle.walk_by_index.specs.declared.StreamPayload.{StreamPayload}
 
@@ -51,22 +53,22 @@ abbrev pub streamPayload : Payload → StreamPlace → StreamPlace → StreamPay
 streamPayload p id start = record { id = id; bytes = record { start = start; len = p .len } }
 
 -- what was read of the body with its places in the stream, and where it ends there; `next` is where it ends in the body
-unfoldable pub entryPlaces : StreamPart → PeerSpec → ℕ → Answer StreamEntry
-entryPlaces body p next =
+unfoldable pub entryToStream : StreamPart → PeerSpec → ℕ → Answer StreamEntry
+entryToStream body p next =
     locatedThen (inStream body (p .agent .start)) (λ agent.
     locatedThen (inStream body (p .name .start)) (λ name.
     locatedThen (inStream body (p .features .start)) (λ first.
     locatedThen (inStream body next) (λ end.
     got (streamEntry p agent name first) (end .0)))))
 
-unfoldable pub idPlaces : StreamPart → ℕ → ℕ → Answer StreamPlace
-idPlaces body at next =
+unfoldable pub idToStream : StreamPart → ℕ → ℕ → Answer StreamPlace
+idToStream body at next =
     locatedThen (inStream body at) (λ id.
     locatedThen (inStream body next) (λ end.
     got id (end .0)))
 
-unfoldable pub payloadPlaces : StreamPart → Payload → ℕ → Answer StreamPayload
-payloadPlaces body p next =
+unfoldable pub payloadToStream : StreamPart → Payload → ℕ → Answer StreamPayload
+payloadToStream body p next =
     locatedThen (inStream body (p .id .0)) (λ id.
     locatedThen (inStream body (p .start .0)) (λ start.
     locatedThen (inStream body next) (λ end.
@@ -79,10 +81,10 @@ unfoldable pub fromBody : {A B : Type 0} → (A → ℕ → Answer B) → List �
 fromBody f s body answer = cond (isInside s body) (bind answer f) (refused 12)
 
 unfoldable pub entryInStream : ℕ → ℕ → List ℕ → StreamPart → Answer StreamEntry
-entryInStream cap index s body = fromBody (entryPlaces body) s body (mapAnswer peerSpecOf (entryAt cap index (partIn s body)))
+entryInStream cap index s body = fromBody (entryToStream body) s body (mapAnswer peerSpecOf (entryAt cap index (partIn s body)))
 
 unfoldable pub idInStream : ℕ → List ℕ → StreamPart → Answer StreamPlace
-idInStream index s body = fromBody (idPlaces body) s body (mapAnswer idOf (idAt index (partIn s body)))
+idInStream index s body = fromBody (idToStream body) s body (mapAnswer idOf (idAt index (partIn s body)))
 
 unfoldable pub payloadInStream : ℕ → List ℕ → StreamPart → Answer StreamPayload
-payloadInStream index s body = fromBody (payloadPlaces body) s body (mapAnswer payloadOf (payloadAt index (partIn s body)))
+payloadInStream index s body = fromBody (payloadToStream body) s body (mapAnswer payloadOf (payloadAt index (partIn s body)))

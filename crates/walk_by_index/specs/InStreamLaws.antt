@@ -29,12 +29,14 @@ use Rattle.handshake_read.specs.Answers.{peerSpecOf}
 use Rattle.messages.specs.Message as Bodies
 use Rattle.messages.specs.Message.{total, payloadAfter, payload}
 use Rattle.messages.specs.PlacesLaws.{gives-payload}
-use Rattle.messages_inventory_response_read.specs.Answers.{idOf, payloadOf}
-use Rattle.messages_inventory_response_read.specs.Parts.{Items, items, itemsStart, itemByIndex, itemAt, idAt, payloadAt}
-use Rattle.messages_read.specs.Parts.{entries, entriesStart, entryAt}
-use Rattle.walk_by_index.specs.InStream.{isInside, inStream, streamEntry, streamPayload, entryPlaces, idPlaces, payloadPlaces, fromBody, entryInStream, idInStream, payloadInStream}
+use Rattle.messages_inventory_read.specs.Answers.{idOf}
+use Rattle.messages_response_read.specs.Answers.{payloadOf}
+use Rattle.messages_inventory_read.specs.Parts.{Items, items, itemsStart, itemByIndex, itemAt, idAt}
+use Rattle.messages_response_read.specs.Parts.{payloadAt}
+use Rattle.messages_peers_read.specs.Parts.{entries, entriesStart, entryAt}
+use Rattle.walk_by_index.specs.InStream.{isInside, inStream, streamEntry, streamPayload, entryToStream, idToStream, payloadToStream, fromBody, entryInStream, idInStream, payloadInStream}
 
--- ---- `fromBody` and `idPlaces`, case by case
+-- ---- `fromBody` and `idToStream`, case by case
 
 module _ {A B : Type 0} (f : A → ℕ → Answer B) (s : List ℕ) (body : StreamPart) where
   pub from-outside : (answer : Answer A) → isInside s body ≡ false → refused 12 ≡ fromBody f s body answer
@@ -49,8 +51,8 @@ module _ {A B : Type 0} (f : A → ℕ → Answer B) (s : List ℕ) (body : Stre
   unfolding fromBody
   from-refused answer inside is = rw (inside, is)
 
-pub id-refused : (body : StreamPart) (at next : ℕ) {m : ℕ} → inStream body at ≡ Refused m → refused m ≡ idPlaces body at next
-unfolding idPlaces
+pub id-refused : (body : StreamPart) (at next : ℕ) {m : ℕ} → inStream body at ≡ Refused m → refused m ≡ idToStream body at next
+unfolding idToStream
 id-refused body at next is = rw is
 
 pub inside-within : (s : List ℕ) (part : StreamPart) → isInside s part ≡ true → part .start .0 + part .len ≤ length s
@@ -125,8 +127,8 @@ first-within =
 -- ---- of a body in the stream
 
 -- the place in the stream that is so many bytes after the body's start
-abbrev pub streamPlace : StreamPart → ℕ → StreamPlace
-streamPlace body at = record { 0 = body .start .0 + at }
+abbrev pub placeInStream : StreamPart → ℕ → StreamPlace
+placeInStream body at = record { 0 = body .start .0 + at }
 
 place-of : {p q : StreamPlace} → At p ≡ At q → p ≡ q
 place-of e = cc
@@ -139,7 +141,7 @@ module _ (s : List ℕ) (body : StreamPart) (fits : length s < 2 ^ 64) (inside :
   body-length = let w = within in simp (length-take, length-drop) (omega arith)
 
   -- a place of the body is as far after its start, and none is refused
-  pub in-stream : (at : ℕ) → at ≤ body .len → inStream body at ≡ At (streamPlace body at)
+  pub in-stream : (at : ℕ) → at ≤ body .len → inStream body at ≡ At (placeInStream body at)
   unfolding inStream located
   in-stream at h = let w = within in rw (le-leb at (body .len) h, lt-ltb (body .start .0 + body .len) (2 ^ 64) (omega arith))
 
@@ -160,41 +162,41 @@ module _ (s : List ℕ) (body : StreamPart) (fits : length s < 2 ^ 64) (inside :
 
   -- an id: its place, and the 32 bytes there
   pub id-in-stream : (k : ℕ) {g : Segment} {e : ℕ} → idAt k (partIn s body) ≡ got g e
-      → (got (streamPlace body (g .start)) (body .start .0 + g .start + 32) ≡ idInStream k s body) × StandsAt s (body .start .0 + g .start) (g .bytes)
-  unfolding idInStream idPlaces
+      → (got (placeInStream body (g .start)) (body .start .0 + g .start + 32) ≡ idInStream k s body) × StandsAt s (body .start .0 + g .start) (g .bytes)
+  unfolding idInStream idToStream
   id-in-stream k {g} {e} q =
       let r = id-read k (partIn s body) q .1 in
       let l = body-length in
       let u : g .start + 32 ≤ body .len = omega (arith, r .size, r .placed .within) in
       let e32 : g .start + 32 ≡ e = omega (arith, r .size, r .end) in
       let same : body .start .0 + g .start + 32 ≡ body .start .0 + e = omega arith in
-      let from = from-got (idPlaces body) s body (mapAnswer idOf (idAt k (partIn s body))) inside (ap (mapAnswer idOf) q ∙ map-value idOf g e) in (
+      let from = from-got (idToStream body) s body (mapAnswer idOf (idAt k (partIn s body))) inside (ap (mapAnswer idOf) q ∙ map-value idOf g e) in (
         rw (in-stream (g .start) (omega arith), in-stream e (omega arith), ← same) at from,
         stands-in-stream (g .start) (g .bytes) (r .placed),
       )
 
   -- a payload: its id and its bytes stand where they are given
   pub payload-in-stream : (k : ℕ) {p : Bodies.Payload} {e : ℕ} → payloadAt k (partIn s body) ≡ got p e
-      → (got (streamPayload (payloadOf p) (streamPlace body (p .id .start)) (streamPlace body (p .body .start))) (body .start .0 + e) ≡ payloadInStream k s body)
+      → (got (streamPayload (payloadOf p) (placeInStream body (p .id .start)) (placeInStream body (p .body .start))) (body .start .0 + e) ≡ payloadInStream k s body)
       × (StandsAt s (body .start .0 + p .id .start) (p .id .bytes) × StandsAt s (body .start .0 + p .body .start) (p .body .bytes))
-  unfolding payloadInStream payloadPlaces payloadAt
+  unfolding payloadInStream payloadToStream payloadAt
   payload-in-stream k {p} {e} q =
       let r = item-at-read (payload (length (partIn s body))) (partIn s body) k q in
       let g = gives-payload (length (partIn s body)) (r .0) .holds p e (r .2) in
       let end : e ≤ body .len = omega (arith, body-length, g .1 .within, payload-ends (length (partIn s body)) (r .0) .holds p e (r .2)) in
       let i = in-stream (p .id .start) (starts-within (p .id .start) (p .id .bytes) (g .0 .1)) in
       let b = in-stream (p .body .start) (starts-within (p .body .start) (p .body .bytes) (g .1)) in
-      let from = from-got (payloadPlaces body) s body (mapAnswer payloadOf (payloadAt k (partIn s body))) inside (ap (mapAnswer payloadOf) q ∙ map-value payloadOf p e) in (
+      let from = from-got (payloadToStream body) s body (mapAnswer payloadOf (payloadAt k (partIn s body))) inside (ap (mapAnswer payloadOf) q ∙ map-value payloadOf p e) in (
         rw (i, b, in-stream e end) at from,
         (stands-in-stream (p .id .start) (p .id .bytes) (g .0 .1), stands-in-stream (p .body .start) (p .body .bytes) (g .1)),
       )
 
   -- an entry: so do its agent and its name
   pub entry-in-stream : (cap k : ℕ) {a : Entry} {e : ℕ} → entryAt cap k (partIn s body) ≡ got a e
-      → (got (streamEntry (peerSpecOf a) (streamPlace body (a .agent .start)) (streamPlace body (a .name .start)) (streamPlace body (a .first))) (body .start .0 + e)
+      → (got (streamEntry (peerSpecOf a) (placeInStream body (a .agent .start)) (placeInStream body (a .name .start)) (placeInStream body (a .first))) (body .start .0 + e)
       ≡ entryInStream cap k s body)
       × (StandsAt s (body .start .0 + a .agent .start) (a .agent .bytes) × StandsAt s (body .start .0 + a .name .start) (a .name .bytes))
-  unfolding entryInStream entryPlaces
+  unfolding entryInStream entryToStream
   entry-in-stream cap k {a} {e} q =
       let r = entry-read cap k (partIn s body) q in
       let g = gives-entry .holds a e (r .1) in
@@ -203,7 +205,7 @@ module _ (s : List ℕ) (body : StreamPart) (fits : length s < 2 ^ 64) (inside :
       let x = in-stream (a .agent .start) (starts-within (a .agent .start) (a .agent .bytes) (g .1 .agent)) in
       let y = in-stream (a .name .start) (starts-within (a .name .start) (a .name .bytes) (g .1 .name)) in
       let z = in-stream (a .first) (omega (arith, first-within .holds a e (r .1))) in
-      let from = from-got (entryPlaces body) s body (mapAnswer peerSpecOf (entryAt cap k (partIn s body))) inside (ap (mapAnswer peerSpecOf) q ∙ map-value peerSpecOf a e) in (
+      let from = from-got (entryToStream body) s body (mapAnswer peerSpecOf (entryAt cap k (partIn s body))) inside (ap (mapAnswer peerSpecOf) q ∙ map-value peerSpecOf a e) in (
         rw (x, y, z, in-stream e (omega arith)) at from,
         (stands-in-stream (a .agent .start) (a .agent .bytes) (g .1 .agent), stands-in-stream (a .name .start) (a .name .bytes) (g .1 .name)),
       )

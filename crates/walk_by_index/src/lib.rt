@@ -1,14 +1,14 @@
 // What is reached by index from an item of the stream, with its places in the stream: an entry, an id or a payload of a message, given the stream and
 // where the message's body stands in it.
 ghost use mathlib.Core.Path.{_≡_};
-ghost use Rattle.walk_by_index.specs.InStream.{isInside, inStream, streamEntry, entryPlaces, payloadPlaces, entryInStream, idInStream, payloadInStream};
+ghost use Rattle.walk_by_index.specs.InStream.{isInside, inStream, streamEntry, entryToStream, payloadToStream, entryInStream, idInStream, payloadInStream};
 ghost use Rattle.walk_by_index.specs.Answers.{streamEntryAnswer, streamIdAnswer, streamPayloadAnswer};
 use frame_read::StreamPart;
 use handshake_read::PeerSpec;
-use messages_inventory_response_read::IdRead;
-use messages_inventory_response_read::Payload;
-use messages_inventory_response_read::PayloadByIndexRead;
-use messages_read::PeerEntryRead;
+use messages_inventory_read::IdRead;
+use messages_peers_read::PeerEntryRead;
+use messages_response_read::Payload;
+use messages_response_read::PayloadByIndexRead;
 use types::Address;
 use types::BodyPlace;
 use types::Located;
@@ -63,7 +63,7 @@ pub fn entry_in_stream(s: &[u8], body: StreamPart, cap: usize, index: usize) -> 
     }
     let from = body.start.0;
     let to = from + body.len;
-    match messages_read::entry_by_index(&s[from..to], cap, index) {
+    match messages_peers_read::entry_by_index(&s[from..to], cap, index) {
         PeerEntryRead::Value(peer, end) => entry_places(peer, end, body),
         PeerEntryRead::Refused(m) => StreamEntryRead::Refused(m),
     }
@@ -78,7 +78,7 @@ pub fn id_in_stream(s: &[u8], body: StreamPart, index: usize) -> StreamIdRead
     }
     let from = body.start.0;
     let to = from + body.len;
-    match messages_inventory_response_read::id_by_index(&s[from..to], index) {
+    match messages_inventory_read::id_by_index(&s[from..to], index) {
         IdRead::Value(id) => match in_stream(id, body) {
             Located::At(place) => StreamIdRead::Value(place),
             Located::Refused(m) => StreamIdRead::Refused(m),
@@ -96,7 +96,7 @@ pub fn payload_in_stream(s: &[u8], body: StreamPart, index: usize) -> StreamPayl
     }
     let from = body.start.0;
     let to = from + body.len;
-    match messages_inventory_response_read::payload_by_index(&s[from..to], index) {
+    match messages_response_read::payload_by_index(&s[from..to], index) {
         PayloadByIndexRead::Value(p, end) => payload_places(p, end, body),
         PayloadByIndexRead::Refused(m) => StreamPayloadRead::Refused(m),
     }
@@ -122,7 +122,7 @@ fn in_stream(at: BodyPlace, body: StreamPart) -> Located
 
 // An entry of the body with its places in the stream, and its end there; where one is refused, the refusal.
 fn entry_places(peer: PeerSpec, end: BodyPlace, body: StreamPart) -> StreamEntryRead
-    ensures { λ r. ⌜ streamEntryAnswer r ≡ entryPlaces body peer (end .0) ⌝ }
+    ensures { λ r. ⌜ streamEntryAnswer r ≡ entryToStream body peer (end .0) ⌝ }
 {
     match in_stream(BodyPlace(peer.agent.start), body) {
         Located::At(agent) => match in_stream(BodyPlace(peer.name.start), body) {
@@ -174,7 +174,7 @@ fn stream_entry(
 
 // So of a payload.
 fn payload_places(p: Payload, end: BodyPlace, body: StreamPart) -> StreamPayloadRead
-    ensures { λ r. ⌜ streamPayloadAnswer r ≡ payloadPlaces body p (end .0) ⌝ }
+    ensures { λ r. ⌜ streamPayloadAnswer r ≡ payloadToStream body p (end .0) ⌝ }
 {
     match in_stream(p.id, body) {
         Located::At(id) => match in_stream(p.start, body) {

@@ -14,17 +14,19 @@ use Rattle.handshake.specs.Entry.{entry, feature}
 use Rattle.handshake_read.specs.Answers.{featureOf, peerSpecOf, featureAnswer}
 use Rattle.handshake_read.specs.Parts.{featureAt}
 use Rattle.messages.specs.Message.{payloadAfter}
-use Rattle.messages_inventory_response_read.specs.Answers.{idOf, payloadOf, payloadSum, idAnswer, payloadAnswer, payloadByIndexAnswer}
-use Rattle.messages_inventory_response_read.specs.Parts.{idAt, payloadAt}
-use Rattle.messages_read.specs.Answers.{peerEntryAnswer}
-use Rattle.messages_read.specs.Parts.{entryAt}
+use Rattle.messages_inventory_read.specs.Answers.{idOf, idAnswer}
+use Rattle.messages_response_read.specs.Answers.{payloadOf, payloadSum, payloadAnswer, payloadByIndexAnswer}
+use Rattle.messages_inventory_read.specs.Parts.{idAt}
+use Rattle.messages_response_read.specs.Parts.{payloadAt}
+use Rattle.messages_peers_read.specs.Answers.{peerEntryAnswer}
+use Rattle.messages_peers_read.specs.Parts.{entryAt}
 use Rattle.handshake_read.proofs.feature_by_index.Reads as feature_by_index
 use Rattle.handshake_read.proofs.read_feature.Reads as read_feature
-use Rattle.messages_inventory_response_read.proofs.id_by_index.Reads as id_by_index
-use Rattle.messages_inventory_response_read.proofs.payload_by_index.Reads as payload_by_index
-use Rattle.messages_inventory_response_read.proofs.read_payload.Reads as read_payload
-use Rattle.messages_read.proofs.entry_by_index.Reads as entry_by_index
-use Rattle.messages_read.proofs.read_entry.Reads as read_entry
+use Rattle.messages_inventory_read.proofs.id_by_index.Reads as id_by_index
+use Rattle.messages_response_read.proofs.payload_by_index.Reads as payload_by_index
+use Rattle.messages_response_read.proofs.read_payload.Reads as read_payload
+use Rattle.messages_peers_read.proofs.entry_by_index.Reads as entry_by_index
+use Rattle.messages_peers_read.proofs.read_entry.Reads as read_entry
 use Rattle.walk_read.specs.Given.{given}
 use Rattle.walk_read.proofs.step.Reads as step
 

@@ -12,9 +12,10 @@ use Rattle.handshake_read.specs.Parts.{featureAt}
 use Rattle.handshake_read.specs.Values.{entryPlace}
 use Rattle.frame_read.specs.Answers.{partIn}
 use Rattle.messages.specs.Writes.{MessageWrite, valueOf}
-use Rattle.messages_inventory_response_read.specs.Parts.{idAt, payloadAt}
-use Rattle.messages_read.specs.Parts.{entryAt}
-use Rattle.messages_read.specs.declared.Peers.{Peers}
+use Rattle.messages_inventory_read.specs.Parts.{idAt}
+use Rattle.messages_response_read.specs.Parts.{payloadAt}
+use Rattle.messages_peers_read.specs.Parts.{entryAt}
+use Rattle.messages_peers_read.specs.declared.Peers.{Peers}
 use Rattle.messages_read.specs.declared.Message.the-variants as Messages
 use Rattle.walk.specs.Session.{Content, sessionReading}
 use Rattle.walk.specs.Walk.{Layer, Item, clean, stopped, Reading}

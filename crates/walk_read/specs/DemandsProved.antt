@@ -10,8 +10,8 @@ use Rattle.wire.specs.Numbers.{lt-or-ge}
 use Rattle.types.specs.declared.Network.{Network}
 use Rattle.handshake.specs.Entry.{Entry, entry}
 use Rattle.messages.specs.Message.{Message}
+use Rattle.messages_peers_read.specs.declared.Peers.{Peers}
 use Rattle.messages_read.specs.Values.{ReadFrom, ListGiven, noPeers, peers, request, response, inv, syncInfo, unknown}
-use Rattle.messages_read.specs.declared.Peers.{Peers}
 use Rattle.messages_read.specs.declared.Message as Given
 use Rattle.messages_read.specs.declared.Message.the-variants as Messages
 use Rattle.walk.specs.CallsLaws.{answers-once}

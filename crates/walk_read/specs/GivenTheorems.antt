@@ -14,8 +14,9 @@ use Rattle.handshake_read.specs.Values.{entryPlace}
 use Rattle.frame_read.specs.Answers.{partIn}
 use Rattle.frame_read.specs.declared.StreamPart.{StreamPart}
 use Rattle.messages.specs.Message.{payloadAfter}
-use Rattle.messages_inventory_response_read.specs.Parts.{idAt, payloadAt}
-use Rattle.messages_read.specs.Parts.{entryAt}
+use Rattle.messages_inventory_read.specs.Parts.{idAt}
+use Rattle.messages_response_read.specs.Parts.{payloadAt}
+use Rattle.messages_peers_read.specs.Parts.{entryAt}
 use Rattle.walk.specs.Walk.{Reading}
 use Rattle.walk.specs.CutRule.{CutRule}
 use Rattle.walk_read.specs.declared.HandshakeItem.{HandshakeItem}

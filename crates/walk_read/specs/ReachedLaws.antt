@@ -30,8 +30,9 @@ use Rattle.handshake_read.specs.Answers.{peerSpecOf, handshakeOf}
 use Rattle.handshake_read.specs.Parts.{featureAt, nth}
 use Rattle.handshake_read.specs.PartsLaws.{entry-agent, entry-listed}
 use Rattle.messages.specs.Message.{Message, message, payloadAfter}
-use Rattle.messages_inventory_response_read.specs.Parts.{idAt, payloadAt}
-use Rattle.messages_read.specs.Parts.{entryAt}
+use Rattle.messages_inventory_read.specs.Parts.{idAt}
+use Rattle.messages_response_read.specs.Parts.{payloadAt}
+use Rattle.messages_peers_read.specs.Parts.{entryAt}
 use Rattle.messages_read.specs.Answers.{messageOf}
 use Rattle.messages_read.specs.Values.{ListGiven}
 use Rattle.messages_read.specs.ValuesLaws.{list-given}

@@ -2,10 +2,12 @@
 use mathlib.Core.Path.{sym, ap, _∙_}
 use denote.Ref.{now}
 use borrow.Author.Tests.{ne-eqb}
+use Rattle.wire.specs.Reader.{mapAnswer}
 use Rattle.wire.specs.ReaderLaws.{map-got, map-refused, map-value}
 use Rattle.messages.specs.Message.{modifierRequest, inv, wholeBody, message}
-use Rattle.messages_inventory_response_read.specs.Answers.{inventoryIn, inventoryAnswer}
-use Rattle.messages_read.specs.Answers.{peersAnswer}
+use Rattle.messages_inventory_read.specs.Answers.{inventoryIn, inventoryAnswer}
+use Rattle.messages_peers_read.specs.Answers.{peersAnswer}
+use Rattle.messages_read.specs.AnswersLaws.{peers-message}
 use Rattle.messages_read.proofs.AnswerLaws.{request-got, inv-got, ids-refused, response-got, response-refused}
 use borrow.Author.Needs.{needs}
 use Rattle.messages_read.proofs.from_frame.Statement.{statement}
@@ -16,12 +18,18 @@ unfolding message
 returns c = rw (c .match .keys1, map-value)
 
 returns-2 : tie.Need-returns-2
-unfolding message
-returns-2 c = rw (c .before .before .before .before .match .keys2) (sym (ap peersAnswer (c .before .peers .given .1)) ∙ c .before .before .before .parse-peers-body .ensures)
+unfolding message mapAnswer
+returns-2 c =
+    let a = c .before .before .before .before .before .before .args in
+    let e = sym (ap peersAnswer (c .before .peers .given .1)) ∙ c .before .before .before .parse-peers-body .ensures in
+    rw (c .before .before .before .before .match .keys2) (peers-message (a .network) (now (a .body)) (a .cap) e)
 
 returns-3 : tie.Need-returns-3
-unfolding message
-returns-3 c = rw (c .before .before .before .before .match .keys2) (sym (ap peersAnswer (c .before .m .given .1)) ∙ c .before .before .before .parse-peers-body .ensures)
+unfolding message mapAnswer
+returns-3 c =
+    let a = c .before .before .before .before .before .before .args in
+    let e = sym (ap peersAnswer (c .before .m .given .1)) ∙ c .before .before .before .parse-peers-body .ensures in
+    rw (c .before .before .before .before .match .keys2) (peers-message (a .network) (now (a .body)) (a .cap) e)
 
 returns-4 : tie.Need-returns-4
 unfolding message

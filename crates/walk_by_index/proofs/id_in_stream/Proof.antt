@@ -5,7 +5,7 @@ use mathlib.Core.Path.{_≡_, sym, ap, _∙_}
 use borrow.Author.Needs.{needs}
 use borrow.Author.Tests.{not-true, not-false}
 use Rattle.wire.specs.ReaderLaws.{map-got}
-use Rattle.messages_inventory_response_read.specs.Answers.{idAnswer, idOf}
+use Rattle.messages_inventory_read.specs.Answers.{idAnswer, idOf}
 use Rattle.walk_by_index.specs.InStream.{inStream, idInStream}
 use Rattle.walk_by_index.specs.InStreamLaws.{inside-within, from-outside, from-got, from-refused, id-refused, id-at}
 use Rattle.walk_by_index.proofs.id_in_stream.Statement.{statement}

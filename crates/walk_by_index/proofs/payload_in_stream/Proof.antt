@@ -4,7 +4,7 @@ use native.Mathlib.Omega.{arith}
 use mathlib.Core.Path.{_≡_, sym, ap, _∙_}
 use borrow.Author.Needs.{needs}
 use borrow.Author.Tests.{not-true, not-false}
-use Rattle.messages_inventory_response_read.specs.Answers.{payloadByIndexAnswer}
+use Rattle.messages_response_read.specs.Answers.{payloadByIndexAnswer}
 use Rattle.walk_by_index.specs.InStream.{payloadInStream}
 use Rattle.walk_by_index.specs.InStreamLaws.{inside-within, from-outside, from-got, from-refused}
 use Rattle.walk_by_index.proofs.payload_in_stream.Statement.{statement}

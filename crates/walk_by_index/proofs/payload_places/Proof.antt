@@ -1,12 +1,12 @@
 -- `walk_by_index::payload_places` meets its contract: each place, and the end, is handed to `in_stream`, and its refusal is handed on.
 use mathlib.Core.Path.{_≡_, sym, _∙_}
 use borrow.Author.Needs.{needs}
-use Rattle.walk_by_index.specs.InStream.{payloadPlaces}
+use Rattle.walk_by_index.specs.InStream.{payloadToStream}
 use Rattle.walk_by_index.proofs.payload_places.Statement.{statement}
 use Rattle.walk_by_index.proofs.payload_places.Tie as tie
 
 returns : tie.Need-returns
-unfolding payloadPlaces
+unfolding payloadToStream
 returns c =
     let e1 = sym (c .before .before .before .before .before .before .before .before .before .before .before .in-stream .ensures) ∙ c .before .before .before .before .before .before .before .before .before .id .given .1 in
     let e2 = sym (c .before .before .before .before .before .before .before .in-stream2 .ensures) ∙ c .before .before .before .before .before .start .given .1 in
@@ -14,7 +14,7 @@ returns c =
     rw (e1, e2, e3)
 
 returns-2 : tie.Need-returns-2
-unfolding payloadPlaces
+unfolding payloadToStream
 returns-2 c =
     let e1 = sym (c .before .before .before .before .before .before .before .before .before .before .before .in-stream .ensures) ∙ c .before .before .before .before .before .before .before .before .before .id .given .1 in
     let e2 = sym (c .before .before .before .before .before .before .before .in-stream2 .ensures) ∙ c .before .before .before .before .before .start .given .1 in
@@ -22,14 +22,14 @@ returns-2 c =
     rw (e1, e2, e3)
 
 returns-3 : tie.Need-returns-3
-unfolding payloadPlaces
+unfolding payloadToStream
 returns-3 c =
     let e1 = sym (c .before .before .before .before .before .before .before .in-stream .ensures) ∙ c .before .before .before .before .before .id .given .1 in
     let e2 = sym (c .before .before .before .in-stream2 .ensures) ∙ c .before .m2 .given .1 in
     rw (e1, e2)
 
 returns-4 : tie.Need-returns-4
-unfolding payloadPlaces
+unfolding payloadToStream
 returns-4 c =
     let e1 = sym (c .before .before .before .in-stream .ensures) ∙ c .before .m3 .given .1 in
     rw e1

@@ -1,6 +1,6 @@
 -- `haspeljo::bodies::haspeljo_entry_by_index` meets its contract: number and array are those of what the reader answered.
 use mathlib.Core.Path.{refl}
-use Rattle.messages_read.specs.Answers.{peerEntryAnswer}
+use Rattle.messages_peers_read.specs.Answers.{peerEntryAnswer}
 use Rattle.haspeljo.proofs.ExportLaws.{reader-got, reader-refused}
 use borrow.Author.Needs.{needs}
 use Rattle.haspeljo.proofs.bodies.haspeljo_entry_by_index.Statement.{statement}

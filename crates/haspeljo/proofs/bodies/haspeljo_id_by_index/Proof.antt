@@ -1,6 +1,6 @@
 -- `haspeljo::bodies::haspeljo_id_by_index` meets its contract: number and array are those of what the reader answered.
 use mathlib.Core.Path.{refl}
-use Rattle.messages_inventory_response_read.specs.Answers.{idAnswer}
+use Rattle.messages_inventory_read.specs.Answers.{idAnswer}
 use Rattle.haspeljo.proofs.ExportLaws.{reader-got, reader-refused}
 use borrow.Author.Needs.{needs}
 use Rattle.haspeljo.proofs.bodies.haspeljo_id_by_index.Statement.{statement}

@@ -1,6 +1,6 @@
 -- `haspeljo::bodies::haspeljo_payload_by_index` meets its contract: number and array are those of what the reader answered.
 use mathlib.Core.Path.{refl}
-use Rattle.messages_inventory_response_read.specs.Answers.{payloadByIndexAnswer}
+use Rattle.messages_response_read.specs.Answers.{payloadByIndexAnswer}
 use Rattle.haspeljo.proofs.ExportLaws.{reader-got, reader-refused}
 use borrow.Author.Needs.{needs}
 use Rattle.haspeljo.proofs.bodies.haspeljo_payload_by_index.Statement.{statement}

@@ -1,0 +1,2 @@
+pub mod BogusLoop
+pub mod AnswerLaws
