@@ -84,6 +84,12 @@ pub all-cases : map (λ (c : Case). message (c .cap) (c .code) (c .body) 0) case
 unfolding cases message count inventoryHeader ids total payloadAfter payload payloads peersBody wholeBody fold listOf groups vlq vlqLength string shortString utf8From utf8 version addressIf entry
 all-cases = refl
 
+-- a payload from a place, after others: the place, the id and the length come before 11, which an empty payload is asked too
+pub payload-order : (payloadAfter 0 1 [] 1 ≡ refused 12) × (payloadAfter 0 1 [] 0 ≡ refused 1)
+    × (payloadAfter 33 34 (id ++ (0 ∷ [])) 0 ≡ refused 11)
+unfolding payloadAfter groups vlq vlqLength
+payload-order = (refl, refl, refl)
+
 -- ---- of all codes, those of the six messages, and the others
 
 unfoldable pub among : (ℕ → Bool) → List ℕ → List ℕ

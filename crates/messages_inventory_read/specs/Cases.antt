@@ -6,7 +6,11 @@ use lib.ListN.{replicate}
 use Rattle.wire.specs.Reader.{Answer, got, refused, Segment, fold, listOf}
 use Rattle.vlq.specs.Vlq.{groups, vlq, vlqLength}
 use Rattle.messages.specs.Message.{count, inventoryHeader}
-use Rattle.messages_inventory_read.specs.Answers.{idAnswer}
+use Rattle.messages_inventory_read.specs.Answers.{inventoryOf, idAnswer, countAnswer, headerAnswer, inventoryAnswer}
+use Rattle.messages_inventory_read.specs.declared.Inventory.{Inventory}
+use Rattle.messages_inventory_read.specs.declared.InventoryRead.the-variants as InventoryReads
+use Rattle.messages_inventory_read.specs.declared.CountRead.the-variants as CountReads
+use Rattle.messages_inventory_read.specs.declared.HeaderRead.the-variants as HeaderReads
 use Rattle.messages_inventory_read.specs.declared.IdRead.the-variants as IdReads
 use Rattle.messages_inventory_read.specs.Parts.{items, itemsStart, itemByIndex, itemAt, idAt}
 
@@ -38,7 +42,19 @@ pub all-ids : map (λ (c : Case Segment). idAt (c .index) (c .body)) idCases ≡
 unfolding idCases idAt itemAt itemByIndex items itemsStart inventoryHeader count fold listOf groups vlq vlqLength
 all-ids = refl
 
--- ---- what the code's answers mean
+-- ---- what the code gives, and what its answers mean
 
-pub all-answers : (idAnswer (IdReads.Value (record { 0 = 5 })) ≡ got 5 37) × (idAnswer (IdReads.Refused 3) ≡ refused 3)
-all-answers = (refl, refl)
+pub inventory-given : inventoryOf {A = ℕ} (2 ∷ 0x81 ∷ 0 ∷ id 7) 9 (5 ∷ []) ≡ record { «modifier_type» = 9; count = 1; start = record { 0 = 3 } }
+unfolding itemsStart inventoryHeader count fold listOf groups vlq vlqLength
+inventory-given = refl
+
+pub all-answers : (i : Inventory) →
+    (idAnswer (IdReads.Value (record { 0 = 5 })) ≡ got 5 37)
+    × (idAnswer (IdReads.Refused 3) ≡ refused 3)
+    × (countAnswer (CountReads.Value 6 (record { at = 7 })) ≡ got 6 7)
+    × (countAnswer (CountReads.Refused 4) ≡ refused 4)
+    × (headerAnswer (HeaderReads.Value (record { «modifier_type» = 8; count = 9; start = record { 0 = 10 } })) ≡ got (record { type = 8; count = 9 }) 10)
+    × (headerAnswer (HeaderReads.Refused 5) ≡ refused 5)
+    × (inventoryAnswer (InventoryReads.Value i (record { 0 = 11 })) ≡ got i 11)
+    × (inventoryAnswer (InventoryReads.Refused 6) ≡ refused 6)
+all-answers i = (refl, refl, refl, refl, refl, refl, refl, refl)

@@ -2,12 +2,12 @@
 use Prim.Native.Nat.{ℕ, _+_}
 use mathlib.Core.List.{List, [], _∷_, _++_, map}
 use mathlib.Core.Path.{_≡_, refl}
-use Rattle.wire.specs.Reader.{Answer, got, refused, fold, listOf}
+use Rattle.wire.specs.Reader.{Answer, got, refused, Segment, fold, listOf}
 use Rattle.vlq.specs.Vlq.{groups, vlq, vlqLength}
 use Rattle.messages.specs.Message.{Payload, count, inventoryHeader, total, payloadAfter, payload}
 use Rattle.messages_inventory_read.specs.Cases.{Case, case, id}
 use Rattle.messages_inventory_read.specs.Parts.{items, itemsStart, itemByIndex, itemAt}
-use Rattle.messages_response_read.specs.Answers.{payloadAnswer, payloadByIndexAnswer}
+use Rattle.messages_response_read.specs.Answers.{payloadSum, payloadAnswer, payloadByIndexAnswer}
 use Rattle.messages_response_read.specs.declared.Payload as Given
 use Rattle.messages_response_read.specs.declared.PayloadRead.the-variants as PayloadReads
 use Rattle.messages_response_read.specs.declared.PayloadByIndexRead.the-variants as PayloadByIndexReads
@@ -37,7 +37,11 @@ pub all-payloads : map (λ (c : Case Payload). payloadAt (c .index) (c .body)) p
 unfolding payloadCases payloadAt itemAt itemByIndex items itemsStart inventoryHeader count total payloadAfter payload fold listOf groups vlq vlqLength
 all-payloads = refl
 
--- ---- what the code's answers mean
+-- ---- what the code gives, and what its answers mean
+
+-- the lengths before this payload, and its own
+pub sum-given : (id : Segment) → payloadSum 20 (record { id = id; body = record { start = 40; bytes = 1 ∷ 2 ∷ [] } }) .1 ≡ 22
+sum-given id = refl
 
 pub all-answers : (p : Given.Payload) →
     (payloadByIndexAnswer (PayloadByIndexReads.Value p (record { 0 = 6 })) ≡ got p 6)

@@ -1,5 +1,4 @@
--- An entry, an id and a payload by index, of a body that does not start where the stream does. Numbers of different roles are different, so that none
--- stands for another.
+-- An entry, an id and a payload by index, of a body that does not start where the stream does.
 use Prim.Native.Nat.{ℕ}
 use mathlib.Core.List.{List, [], _∷_, _++_, map}
 use mathlib.Core.Path.{_≡_, refl}
@@ -45,7 +44,7 @@ stream body = 91 ∷ 92 ∷ 93 ∷ 94 ∷ 95 ∷ (body ++ (96 ∷ 97 ∷ []))
 
 -- ---- entries
 
--- two entries of 8 and 16 bytes: agent, version, name, no address, and of the second a feature of 3 bytes
+-- two entries of 8 and 15 bytes: agent, version, name, no address, and of the second a feature of 3 bytes
 abbrev peers : List ℕ
 peers =
     2
@@ -69,6 +68,9 @@ entryCases =
     -- the index, then the cap
     ∷ case (entryInStream 64 2 (stream peers) (at 5 24)) (refused 12)
     ∷ case (entryInStream 1 1 (stream peers) (at 5 24)) (refused 10)
+    -- bytes left over, up to the stream's end; a body of no bytes there
+    ∷ case (entryInStream 64 1 (stream peers) (at 5 26)) (got second 29)
+    ∷ case (entryInStream 64 0 (stream peers) (at 31 0)) (refused 1)
     -- a body that ends before its entries do, one that ends past the stream, and one that starts there
     ∷ case (entryInStream 64 1 (stream peers) (at 5 23)) (refused 1)
     ∷ case (entryInStream 64 1 (stream peers) (at 5 27)) (refused 12)
