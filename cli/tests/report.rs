@@ -192,6 +192,30 @@ end 145
     run_on(&["report", "--addresses", "--network", "testnet"], &session).assert(0, lines, "");
 }
 
+/// Both ends of 3fff::/20 and their neighbours outside.
+#[test]
+fn addresses_of_documentation_space() {
+    let addresses = [
+        ("[3ffe:ffff:ffff:ffff:ffff:ffff:ffff:ffff]:9030", 0),
+        ("[3fff::]:9030", 1),
+        ("[3fff:fff:ffff:ffff:ffff:ffff:ffff:ffff]:9030", 1),
+        ("[3fff:1000::]:9030", 0),
+    ];
+    for (network, name, there) in
+        [(Network::Mainnet, "mainnet", 1), (Network::Testnet, "testnet", 0)]
+    {
+        let session = session_with(&addresses.map(|(address, _)| address), network);
+        let ended = run_on(&["report", "--addresses", "--network", name], &session);
+        assert_eq!(ended.status, Some(0));
+        let count = format!(" code 2 entries 4 bogus {}\n", 2 * there);
+        assert!(ended.stdout.contains(&count), "{}", ended.stdout);
+        for (address, inside) in addresses {
+            let line = format!("    address {address} bogus {} ", inside * there);
+            assert!(ended.stdout.contains(&line), "{line}\n{}", ended.stdout);
+        }
+    }
+}
+
 #[test]
 fn the_network_decides() {
     let session = peers_session(Network::Testnet);

@@ -52,19 +52,53 @@ pub enum Answer {
     Broken(&'static str),
 }
 
-/// The answer that a case must have.
+/// The answer that a case must have, or a part of it.
 #[derive(Clone, Debug, PartialEq, Eq)]
-pub enum Expected {
+pub enum Expected<A = Answer> {
     /// What the Rust answers.
-    Rust(Answer),
-    /// What document 01 asks where the Rust cannot say it: not comparable.
-    Document(Answer),
+    Rust(A),
+    /// What document 01 or 02 asks where the Rust cannot say it: not comparable.
+    Document(A),
 }
 
-impl Expected {
-    pub fn answer(&self) -> &Answer {
+impl<A> Expected<A> {
+    pub fn answer(&self) -> &A {
         match self {
             Expected::Rust(answer) | Expected::Document(answer) => answer,
+        }
+    }
+
+    pub fn into_answer(self) -> A {
+        match self {
+            Expected::Rust(answer) | Expected::Document(answer) => answer,
+        }
+    }
+
+    pub fn map<B>(self, change: impl FnOnce(A) -> B) -> Expected<B> {
+        match self {
+            Expected::Rust(answer) => Expected::Rust(change(answer)),
+            Expected::Document(answer) => Expected::Document(change(answer)),
+        }
+    }
+
+    pub fn is_document(&self) -> bool {
+        matches!(self, Expected::Document(_))
+    }
+}
+
+/// Parts put together are a document's where one of them is.
+impl<A> FromIterator<Expected<A>> for Expected<Vec<A>> {
+    fn from_iter<I: IntoIterator<Item = Expected<A>>>(parts: I) -> Expected<Vec<A>> {
+        let mut documented = false;
+        let answers = parts.into_iter().map(|part| {
+            documented |= part.is_document();
+            part.into_answer()
+        });
+        let answers = answers.collect();
+        if documented {
+            Expected::Document(answers)
+        } else {
+            Expected::Rust(answers)
         }
     }
 }
@@ -100,7 +134,7 @@ impl fmt::Display for Expected {
     fn fmt(&self, f: &mut fmt::Formatter) -> fmt::Result {
         match self {
             Expected::Rust(answer) => write!(f, "the Rust: {answer}"),
-            Expected::Document(answer) => write!(f, "document 01: {answer}"),
+            Expected::Document(answer) => write!(f, "the documents: {answer}"),
         }
     }
 }

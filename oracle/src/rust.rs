@@ -1,6 +1,6 @@
 //! The ported Rust's answers, with document 01's numbers and the places reached.
-//! Where the Rust cannot say what document 01 asks, document 01's answer stands in its place and
-//! is marked as such.
+//! Where the Rust cannot say what document 01 or 02 asks, the document's answer stands in its place
+//! and is marked as such.
 
 pub mod builds;
 pub mod entries;
@@ -19,10 +19,15 @@ use p2p::transport::vlq;
 use p2p::types::Network;
 use std::io::{self, Cursor, ErrorKind, Read};
 use std::net::{IpAddr, Ipv4Addr, Ipv6Addr, SocketAddr};
+use std::ops::RangeInclusive;
 use std::string::FromUtf8Error;
 
 /// The limit on lengths and counts, in vlq.rs and in document 01.
 pub const LIMIT: u64 = 16_388_608;
+
+/// 3fff::/20, the documentation space of RFC 9637, which the Rust does not know (document 02, §5).
+const RFC_9637: RangeInclusive<Ipv6Addr> = Ipv6Addr::new(0x3fff, 0, 0, 0, 0, 0, 0, 0)
+    ..=Ipv6Addr::new(0x3fff, 0xfff, 0xffff, 0xffff, 0xffff, 0xffff, 0xffff, 0xffff);
 
 /// How the text of a refusal by the Rust begins, and document 01's number for it.
 const TEXTS: [(&str, u8); 11] = [
@@ -194,7 +199,16 @@ pub fn is_bogus_v6(high: u64, low: u64, port: u16, mainnet: u8) -> Expected {
 }
 
 fn is_bogus(ip: IpAddr, port: u16, mainnet: u8) -> Expected {
-    is(Value::Truth(is_bogus_address(SocketAddr::new(ip, port), network(mainnet))))
+    judged(SocketAddr::new(ip, port), mainnet).map(|bogus| Answer::Is(Value::Truth(bogus)))
+}
+
+/// Whether an address is bogus: by the Rust, which is asked on neither network about the range of
+/// RFC 9637; there document 02 says it, bogus on mainnet alone.
+fn judged(address: SocketAddr, mainnet: u8) -> Expected<bool> {
+    match address.ip() {
+        IpAddr::V6(ip) if RFC_9637.contains(&ip) => Expected::Document(mainnet != 0),
+        _ => Expected::Rust(is_bogus_address(address, network(mainnet))),
+    }
 }
 
 /// Any `mainnet` but 0 is mainnet.
@@ -222,4 +236,27 @@ pub fn frame_check(s: &[u8]) -> Expected {
     }
     let frame = encode(&Network::Mainnet.magic(), &Frame { code: 0, body: s.to_vec() });
     is(Value::Bytes(frame[9..13].to_vec()))
+}
+
+#[cfg(test)]
+mod tests {
+    use super::*;
+
+    /// Who judges an address on mainnet and on testnet, and how.
+    fn judges(text: &str) -> [Expected<bool>; 2] {
+        let address = SocketAddr::new(text.parse().expect("an address"), 9030);
+        [1, 0].map(|mainnet| judged(address, mainnet))
+    }
+
+    #[test]
+    fn the_rust_is_not_asked_about_the_range_of_rfc_9637() {
+        for inside in ["3fff::", "3fff:fff::", "3fff:fff:ffff:ffff:ffff:ffff:ffff:ffff"] {
+            assert_eq!(judges(inside), [true, false].map(Expected::Document), "{inside}");
+        }
+        for outside in ["3ffe:ffff:ffff:ffff:ffff:ffff:ffff:ffff", "3fff:1000::", "4000::"] {
+            assert_eq!(judges(outside), [false, false].map(Expected::Rust), "{outside}");
+        }
+        assert_eq!(judges("2001:db8::"), [true, false].map(Expected::Rust));
+        assert_eq!(judges("::3fff:0"), [false, false].map(Expected::Rust));
+    }
 }

@@ -14,6 +14,11 @@ fn addresses() {
         ("::ffff:8.8.8.8", true, true),
         ("2001:db8::1", true, false),
         ("2001:4860:4860::8888", false, false),
+        ("3ffe:ffff:ffff:ffff:ffff:ffff:ffff:ffff", false, false),
+        ("3fff::", true, false),
+        ("3fff:fff::", true, false),
+        ("3fff:fff:ffff:ffff:ffff:ffff:ffff:ffff", true, false),
+        ("3fff:1000::", false, false),
     ] {
         assert_eq!(bogus(text, Network::Mainnet), mainnet, "{text}");
         assert_eq!(bogus(text, Network::Testnet), testnet, "{text}");

@@ -185,6 +185,17 @@ static void read_leaves(void)
     CHECK(part[HASPELJO_PART_BYTES] == 3 && part[HASPELJO_PART_BYTES_LENGTH] == 2 && part[HASPELJO_PART_NEXT] == 5);
 }
 
+/* Both ends of 3fff::/20, their neighbours outside, and testnet. */
+static void read_addresses(void)
+{
+    const uint64_t first = 0x3fff000000000000, last = 0x3fff0fffffffffff;
+    CHECK(haspeljo_is_bogus_v6(first - 1, UINT64_MAX, 9030, HASPELJO_MAINNET) == 0);
+    CHECK(haspeljo_is_bogus_v6(first, 0, 9030, HASPELJO_MAINNET) == 1);
+    CHECK(haspeljo_is_bogus_v6(last, UINT64_MAX, 9030, HASPELJO_MAINNET) == 1);
+    CHECK(haspeljo_is_bogus_v6(last + 1, 0, 9030, HASPELJO_MAINNET) == 0);
+    CHECK(haspeljo_is_bogus_v6(first, 0, 9030, HASPELJO_TESTNET) == 0);
+}
+
 static void read_hashes(void)
 {
     uint8_t digest[HASPELJO_DIGEST_BYTES], start[HASPELJO_CHECK_BYTES];
@@ -267,6 +278,7 @@ int main(void)
     CHECK(at == n && haspeljo_step(s, n, at, HASPELJO_MAINNET, CAP, step) == 0);
     CHECK(step[HASPELJO_STEP_KIND] == HASPELJO_STEP_KIND_END);
     read_leaves();
+    read_addresses();
     read_hashes();
     read_stops(n, peers);
     read_growing(n, items);

@@ -126,8 +126,10 @@ fn peers() {
         entry(Some("10.0.0.1:9030"), &[(3, &[1, 0, 2, 4, 5])]),
         entry(Some("127.0.0.1:9030"), &[(3, &[2, 3, 2, 3, 5]), (9, &[])]),
         entry(Some("[2a01:4f8::1]:9030"), &[]),
+        entry(Some("[3fff:fff::1]:9030"), &[]),
+        entry(Some("[3fff:1000::1]:9030"), &[]),
     ];
-    for (network, expected) in [(Network::Mainnet, 2), (Network::Testnet, 1)] {
+    for (network, expected) in [(Network::Mainnet, 3), (Network::Testnet, 1)] {
         let (bytes, at) = written(network, |out, at| write_peers(out, at, network, CAP, &values));
         let (2, Message::Peers { bogus, entries, .. }) = message(&bytes, network, at) else {
             panic!()

@@ -101,6 +101,12 @@ fn entry(name: &str, address: &str) -> EntryValue {
     EntryValue::new("ergoref", Version::new(6, 0, 1), name).with_address(address)
 }
 
+fn session(writes: &[Write]) -> Vec<u8> {
+    let mut session = vec![];
+    writes.iter().for_each(|write| write.append(&mut session).expect("a write"));
+    session
+}
+
 /// A handshake and Peers of three entries, in frames of a network. The handshake and the second entry have a Session
 /// feature of testnet, the first one of mainnet, the third none; all addresses are private.
 pub fn session_of_both_networks(network: Network) -> Vec<u8> {
@@ -112,13 +118,10 @@ pub fn session_of_both_networks(network: Network) -> Vec<u8> {
         entry("testnet", "10.0.0.3:9020").with_features(&testnet[..]),
         entry("none", "10.0.0.4:9020"),
     ];
-    let writes = [
+    session(&[
         Write::Handshake { timestamp: 0, entry: &handshake },
         Write::Peers { network, cap: 64, entries: &peers },
-    ];
-    let mut session = vec![];
-    writes.iter().for_each(|write| write.append(&mut session).expect("a write"));
-    session
+    ])
 }
 
 /// A handshake, Peers of four entries, GetPeers.
@@ -131,12 +134,19 @@ pub fn peers_session(network: Network) -> Vec<u8> {
         entry("", "[2001:41d0::1]:9030"),
         EntryValue::new("o\"ld \u{7}", Version::new(3, 0, 0), "a name"),
     ];
-    let writes = [
+    session(&[
         Write::Handshake { timestamp: 1_700_000_000_000, entry: &handshake },
         Write::Peers { network, cap: 64, entries: &peers },
         Write::GetPeers { network },
-    ];
-    let mut session = vec![];
-    writes.iter().for_each(|write| write.append(&mut session).expect("a write"));
-    session
+    ])
+}
+
+/// A handshake, and Peers with these addresses.
+pub fn session_with(addresses: &[&str], network: Network) -> Vec<u8> {
+    let handshake = EntryValue::new("ergoref", Version::new(6, 0, 1), "node");
+    let peers: Vec<EntryValue> = addresses.iter().map(|address| entry("", address)).collect();
+    session(&[
+        Write::Handshake { timestamp: 0, entry: &handshake },
+        Write::Peers { network, cap: 64, entries: &peers },
+    ])
 }

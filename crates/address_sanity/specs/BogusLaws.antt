@@ -3,10 +3,10 @@
 use Prim.Native.Nat.{ℕ, zero, _+_, _*_, _-_, _/_, _%_, _^_, _≤_, _<_}
 use native.Mathlib.Nat.{div-add-mod', div-eq-of-lt-le, div-lt-iff-lt-mul, le-div-iff-mul-le}
 use native.Mathlib.Omega.{arith}
-use mathlib.Core.Path.{_≡_, refl, ap, _∙_}
+use mathlib.Core.Path.{_≡_, refl, ap, sym, _∙_}
 use mathlib.Core.Logic.{⊎-elim}
 use mathlib.Core.List.{List, [], _∷_, _++_, List·Memᴰ, List·Memᴰ·not-nil, List·Memᴰ·cases-cons}
-use mathlib.Core.Bool.{Bool, true, false, _||_, _&&_, and-eq-true-iff}
+use mathlib.Core.Bool.{Bool, true, false, _||_, _&&_, and-eq-true-iff, or-true}
 use lib.Dec.{eqb, leb, ltb}
 use lib.Pow.{pow-pos}
 use borrow.Author.Tests.{eq-eqb, ne-eqb, le-leb, lt-leb, eqb-true, ltb-true, leb-true, leb-false}
@@ -80,32 +80,37 @@ edges width row h =
       last-address = well-formed width row h .1;
     }
 
-every : (Range → Bool) → List Range → Bool
-every test [] = true
-every test (row ∷ rows) = test row && every test rows
+unfoldable pub everyRow : (Range → Bool) → List Range → Bool
+everyRow test [] = true
+everyRow test (row ∷ rows) = test row && everyRow test rows
 
-every-row : (test : Range → Bool) (rows : List Range) → every test rows ≡ true → (row : Range) → List·Memᴰ row rows → test row ≡ true
-unfolding every
+every-row : (test : Range → Bool) (rows : List Range) → everyRow test rows ≡ true → (row : Range) → List·Memᴰ row rows → test row ≡ true
+unfolding everyRow
 every-row test [] h row m = absurd (List·Memᴰ·not-nil m)
 every-row test (r ∷ rows) h row m =
-    let parts = and-eq-true-iff (test r) (every test rows) .0 h in
+    let parts = and-eq-true-iff (test r) (everyRow test rows) .0 h in
     ⊎-elim (λ e. ap test e ∙ parts .0) (λ n. every-row test rows (parts .1) row n) (List·Memᴰ·cases-cons m)
 
 -- the edges of each row of the table
 pub edges-v4 : (row : Range) → List·Memᴰ row (alwaysV4 ++ mainnetV4) → Edges 32 row
-unfolding every wellFormed last alwaysV4 mainnetV4
+unfolding everyRow wellFormed last alwaysV4 mainnetV4
 edges-v4 row m = edges 32 row (every-row (wellFormed 32) (alwaysV4 ++ mainnetV4) refl row m)
 
 pub edges-v6 : (row : Range) → List·Memᴰ row (alwaysV6 ++ mainnetV6) → Edges 128 row
-unfolding every wellFormed last alwaysV6 mainnetV6
+unfolding everyRow wellFormed last alwaysV6 mainnetV6
 edges-v6 row m = edges 128 row (every-row (wellFormed 128) (alwaysV6 ++ mainnetV6) refl row m)
 
--- an address that a row does not contain is judged by the other rows
-pub others : (width a : ℕ) (before : List Range) (row : Range) (after : List Range) → contains width row a ≡ false
-    → someContains width (before ++ (row ∷ after)) a ≡ someContains width (before ++ after) a
+or-swap : (p q r : Bool) → (p || (q || r)) ≡ (q || (p || r))
+or-swap true q r = sym (or-true q)
+or-swap false q r = refl
+
+-- one row more adds the addresses that it contains, and the others are left to the other rows
+pub one-more : (width a : ℕ) (before : List Range) (row : Range) (after : List Range)
+    → someContains width (before ++ (row ∷ after)) a ≡ (contains width row a || someContains width (before ++ after) a)
 unfolding someContains
-others width a [] row after h = simp h
-others width a (r ∷ before) row after h = ap (λ (t : Bool). contains width r a || t) (others width a before row after h)
+one-more width a [] row after = refl
+one-more width a (r ∷ before) row after =
+    rw (one-more width a before row after) (or-swap (contains width r a) (contains width row a) (someContains width (before ++ after) a))
 
 -- the port plays no part
 pub port-v4 : (ip p q : ℕ) (network : Network) → bogus (V4 ip p) network ≡ bogus (V4 ip q) network

@@ -1,5 +1,5 @@
--- Document 01, "Addresses", on both networks: each of its ranges at both ends, and 0.0.0.1. Those of its "At the edges"
--- stand in the crate `edges`. One lemma covers the table.
+-- Document 01, "Addresses", and document 02, §5, on both networks: each of their ranges at both ends, 0.0.0.1, and the addresses that §5
+-- names. Those of 01's "At the edges" stand in the crate `edges`. One lemma covers the table.
 use Prim.Native.Nat.{ℕ, _+_, _-_, _/_, _%_, _^_}
 use mathlib.Core.Path.{_≡_, refl}
 use mathlib.Core.List.{List, [], _∷_, _++_, map}
@@ -51,6 +51,7 @@ cases =
     ++ (range v4 false (ipv4 203 0 113 0) (ipv4 203 0 113 255)
     ++ (range v6 false (ipv6 0xfc00 0 0 0 0 0 0 0) (ipv6 0xfdff 0xffff 0xffff 0xffff 0xffff 0xffff 0xffff 0xffff)
     ++ (range v6 false (ipv6 0x2001 0x0db8 0 0 0 0 0 0) (ipv6 0x2001 0x0db8 0xffff 0xffff 0xffff 0xffff 0xffff 0xffff)
+    ++ (range v6 false (ipv6 0x3fff 0 0 0 0 0 0 0) (ipv6 0x3fff 0x0fff 0xffff 0xffff 0xffff 0xffff 0xffff 0xffff)
     -- always, at the first and the last of all addresses
     ++ (is true (v4 (ipv4 0 0 0 0))
     ∷ isNot (v4 (ipv4 0 0 0 1))
@@ -65,10 +66,17 @@ cases =
     ∷ isNot (v6 (ipv6 0xfeff 0xffff 0xffff 0xffff 0xffff 0xffff 0xffff 0xffff))
     ∷ is true (v6 (ipv6 0xff00 0 0 0 0 0 0 0))
     ∷ is true (v6 (ipv6 0xffff 0xffff 0xffff 0xffff 0xffff 0xffff 0xffff 0xffff))
+    -- 3fff:fff:: is in, 3fff:1000:: is out, and so are others that share bytes with 3fff::/20
+    ∷ is false (v6 (ipv6 0x3fff 0x0fff 0 0 0 0 0 0))
+    ∷ isNot (v6 (ipv6 0x3fff 0x1000 0 0 0 0 0 0))
+    ∷ isNot (v6 (ipv6 0x3fff 0x8000 0 0 0 0 0 0))
+    ∷ isNot (v6 (ipv6 0x4000 0 0 0 0 0 0 0))
+    ∷ isNot (v6 (ipv6 0 0 0 1 0x3fff 0 0 0))
+    ∷ is true (v6 (ipv6 0xff3f 0xff00 0 0 0 0 0 0))
     -- an IPv4-mapped address, and none
     ∷ is true (v6 (ipv6 0 0 0 0 0 0xffff 0x0102 0x0304))
     ∷ isNot None
-    ∷ []))))))))))))))
+    ∷ [])))))))))))))))
 
 pub all-cases : (map (λ (c : Case). bogus (c .address) Mainnet) cases ≡ map (λ (c : Case). c .mainnet) cases)
     × (map (λ (c : Case). bogus (c .address) Testnet) cases ≡ map (λ (c : Case). c .testnet) cases)

@@ -1,5 +1,5 @@
--- The table of address ranges: document 01, "Addresses". A row is (first address, prefix length), as in CIDR notation
--- (RFC 4632, section 3.1; RFC 4291, section 2.3), with the RFC that sets the range aside.
+-- The table of address ranges: document 01, "Addresses", and document 02, §5, which added 3fff::/20. A row is (first address, prefix
+-- length), as in CIDR notation (RFC 4632, section 3.1; RFC 4291, section 2.3), with the RFC that sets the range aside.
 use Prim.Native.Nat.{ℕ, _+_, _*_}
 use mathlib.Core.List.{List, [], _∷_}
 
@@ -50,4 +50,5 @@ unfoldable pub mainnetV6 : List Range
 mainnetV6 =
     (ipv6 0xfc00 0 0 0 0 0 0 0, 7)  -- RFC 4193, section 3.1: unique local
     ∷ (ipv6 0x2001 0x0db8 0 0 0 0 0 0, 32)  -- RFC 3849, section 2: documentation
+    ∷ (ipv6 0x3fff 0 0 0 0 0 0 0, 20)  -- RFC 9637: documentation
     ∷ []

@@ -69,4 +69,5 @@ fn is_mainnet_only_bogus_v6(high: u64, low: u64) -> bool
 {
     (high >> 57 == 0xfc00 >> 9) // fc00::/7
         | (high >> 32 == 0x2001_0db8) // 2001:db8::/32
+        | (high >> 44 == 0x3fff_0) // 3fff::/20
 }

@@ -209,10 +209,20 @@ fourPeers =
     ++ (entryWith (1 ∷ 8 ∷ 8 ∷ 8 ∷ 8 ∷ 8 ∷ 0xc6 ∷ 0x46 ∷ [])
     ++ entryWith (0 ∷ []))))
 
+-- the first and the last address of 3fff::/20 and their neighbours outside (document 02, §5)
+abbrev documentationPeers : List ℕ
+documentationPeers =
+    4 ∷ (entryWith (1 ∷ 20 ∷ (0x3f ∷ 0xff ∷ (replicate 14 0 ++ (0xc6 ∷ 0x46 ∷ []))))
+    ++ (entryWith (1 ∷ 20 ∷ (0x3f ∷ 0xff ∷ 0x0f ∷ (replicate 13 0xff ++ (0xc6 ∷ 0x46 ∷ []))))
+    ++ (entryWith (1 ∷ 20 ∷ (0x3f ∷ 0xfe ∷ (replicate 14 0xff ++ (0xc6 ∷ 0x46 ∷ []))))
+    ++ entryWith (1 ∷ 20 ∷ (0x3f ∷ 0xff ∷ 0x10 ∷ (replicate 13 0 ++ (0xc6 ∷ 0x46 ∷ [])))))))
+
 unfoldable pub bodyCases : List BodyCase
 bodyCases =
     inBody Mainnet 64 2 fourPeers (opened (peersVerdict 4 2) 100)
     ∷ inBody Testnet 64 2 fourPeers (opened (peersVerdict 4 1) 100)
+    ∷ inBody Mainnet 64 2 documentationPeers (opened (peersVerdict 4 2) 100)
+    ∷ inBody Testnet 64 2 documentationPeers (opened (peersVerdict 4 0) 100)
     ∷ inBody Mainnet 64 2 (0 ∷ []) (opened (peersVerdict 0 0) 100)
     ∷ inBody Mainnet 4 2 fourPeers (opened (peersVerdict 4 2) 100)
     ∷ inBody Mainnet 3 2 fourPeers (refusedIn Walk.body 10)

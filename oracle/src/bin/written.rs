@@ -10,7 +10,7 @@ use std::{env, process};
 const SHOWN: u64 = 10;
 const LENGTH: usize = 500;
 
-/// A run of so many lists must hold every kind of write and every refusal number.
+/// A run of so many lists must hold every kind of write, every refusal number and 3fff::/20.
 const WHOLE: u64 = 10_000;
 
 fn main() {
@@ -18,21 +18,30 @@ fn main() {
     let count = words.next().unwrap_or(100_000);
     let seed = words.next().unwrap_or(1);
     let mut tally = Tally::default();
-    let mut differed = 0;
+    let (mut documented, mut differed) = (0, 0);
     for index in 0..count {
         let mut rng = Rng::new(seed, 0, index as usize);
         let list = list(&mut rng, index);
         tally.count(&list);
-        if let Err(what) = compare(&list, &mut rng) {
-            differed += 1;
-            if differed <= SHOWN {
-                let what: String = what.chars().take(LENGTH).collect();
-                println!("differs: seed {seed}, list {index}: {what}");
+        match compare(&list, &mut rng) {
+            Ok(by_document) => documented += by_document as u64,
+            Err(what) => {
+                differed += 1;
+                if differed <= SHOWN {
+                    let what: String = what.chars().take(LENGTH).collect();
+                    println!("differs: seed {seed}, list {index}: {what}");
+                }
             }
         }
     }
-    println!("{tally}\nseed {seed}: {count} lists, {differed} differed");
-    let missing = if count < WHOLE { vec![] } else { tally.missing() };
+    println!(
+        "{tally}\nseed {seed}: {count} lists, {documented} of them with addresses of 3fff::/20, \
+         {differed} differed"
+    );
+    let mut missing = if count < WHOLE { vec![] } else { tally.missing() };
+    if count >= WHOLE && documented == 0 {
+        missing.push("3fff::/20".into());
+    }
     if !missing.is_empty() {
         println!("never met: {}", missing.join(", "));
     }

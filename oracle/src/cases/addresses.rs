@@ -1,4 +1,4 @@
-//! Cases for addresses: both sides of each end of document 01's ranges.
+//! Cases for addresses: both sides of each end of the ranges of documents 01 and 02.
 
 use crate::case::Case;
 use crate::kinds::Kind;
@@ -22,8 +22,8 @@ const V4: [([u8; 4], u32); 13] = [
     ([203, 0, 113, 0], 24),
 ];
 
-/// The ranges of IPv6, the last one being no range of document 01: IPv4-compatible addresses.
-const V6: [([u16; 8], u32); 8] = [
+/// The ranges of IPv6, the last one being no range of the documents: IPv4-compatible addresses.
+const V6: [([u16; 8], u32); 9] = [
     ([0, 0, 0, 0, 0, 0, 0, 1], 128),
     ([0, 0, 0, 0, 0, 0, 0, 0], 128),
     ([0xff00, 0, 0, 0, 0, 0, 0, 0], 8),
@@ -31,6 +31,7 @@ const V6: [([u16; 8], u32); 8] = [
     ([0xfe80, 0, 0, 0, 0, 0, 0, 0], 10),
     ([0xfc00, 0, 0, 0, 0, 0, 0, 0], 7),
     ([0x2001, 0xdb8, 0, 0, 0, 0, 0, 0], 32),
+    ([0x3fff, 0, 0, 0, 0, 0, 0, 0], 20),
     ([0, 0, 0, 0, 0, 0, 0, 0], 96),
 ];
 
@@ -118,6 +119,10 @@ pub fn v6() -> Vec<Kind> {
                 visit(&v6_case(address, rng.below(65536), network(rng)));
             }
         }),
+        Kind::random("3fff::/20", 1_000_000, |rng, visit| {
+            let low = ((rng.u64() as u128) << 64 | rng.u64() as u128) >> 20;
+            visit(&v6_case(0x3fff << 112 | low, rng.below(65536), network(rng)));
+        }),
     ]
 }
 
@@ -128,7 +133,8 @@ fn network(rng: &mut Rng) -> u64 {
 
 /// An address whose segments are those of the ranges, or next to them, or random.
 fn segments(rng: &mut Rng) -> u128 {
-    const KNOWN: [u16; 8] = [0, 0xffff, 0xff00, 0xfe80, 0xfec0, 0xfc00, 0x2001, 0xdb8];
+    const KNOWN: [u16; 10] =
+        [0, 0xffff, 0xff00, 0xfe80, 0xfec0, 0xfc00, 0x2001, 0xdb8, 0x3fff, 0xfff];
     (0..8).fold(0, |address, _| {
         let segment = match rng.below(4) {
             0 => rng.u64() as u16,

@@ -88,11 +88,20 @@ fn edges() -> Vec<Case> {
         &[0, 4, 0, 100, 0, 1, 8, 8, 8, 8, 8, 9, 0, 0, 4, 0, 100, 0, 1, 8, 127, 0, 0, 1, 9, 0],
     ]
     .concat();
+    // Both ends of 3fff::/20 and their neighbours outside.
+    let (first, last) = (0x3fff << 112, 0x3fff << 112 | u128::MAX >> 20);
+    let mut documentation = vec![4];
+    for address in [first - 1, first, last, last + 1] {
+        documentation.extend([0, 4, 0, 100, 0, 1, 20]);
+        documentation.extend(address.to_be_bytes());
+        documentation.extend([9, 0]);
+    }
     let ids = [&[9, 2][..], &[7; 64]].concat();
     let payloads = [&[9, 2][..], &[7; 32], &[1, 5], &[8; 32], &[3, 5, 6, 7]].concat();
     let declared = [&[2, 1][..], &[7; 32], &[36]].concat();
-    let bodies: [(u8, &[u8]); 22] = [
+    let bodies: [(u8, &[u8]); 23] = [
         (2, &peers),
+        (2, &documentation),
         (22, &ids),
         (33, &payloads),
         (55, &ids),
@@ -203,6 +212,20 @@ mod tests {
             numbers.iter().map(move |number| format!("stop {layer} {number}"))
         });
         assert_eq!(stops(), all.collect());
+    }
+
+    /// The bogus count of the documents' edge with 3fff::/20 is a document's, and of the others the Rust's.
+    #[test]
+    fn walks_with_addresses_of_rfc_9637_are_a_documents() {
+        let walks = edges().into_iter().map(|case| walk(&case.bytes, case.word(0) as u8, 64));
+        let documented: Vec<String> = walks
+            .filter(|walk| walk.is_document())
+            .map(|walk| walk.into_answer().to_string())
+            .collect();
+        let counted = |text: &String, counts: &str| text.contains(counts);
+        assert_eq!(documented.len(), 3);
+        assert_eq!(documented.iter().filter(|text| counted(text, " 0 4 2 1 ")).count(), 2);
+        assert_eq!(documented.iter().filter(|text| counted(text, " 0 4 0 1 ")).count(), 1);
     }
 
     #[test]

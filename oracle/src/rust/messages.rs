@@ -1,9 +1,8 @@
 //! The Rust's answers on message bodies. It gives ids, payloads and entries by value; the places
 //! where these stand are found by stepping through the body with its own readers.
 
-use super::{answer, byte, cursor, entries, network, number, refused, Reading};
+use super::{answer, byte, cursor, entries, judged, number, refused, Reading};
 use crate::answer::{Answer, Expected, Value};
-use p2p::protocol::address_sanity::is_bogus_address;
 use p2p::protocol::messages::{parse_peers_body, MessageCode, ProtocolMessage};
 use p2p::transport::frame::Frame;
 use p2p::transport::handshake::{parse_peer_entry, PeerSpec};
@@ -19,35 +18,47 @@ const ID: u64 = 32;
 /// A payload: its id and its bytes.
 type Modifier = ([u8; 32], Vec<u8>);
 
+/// A message opened and the next place; a document's where it has a bogus count of which a document
+/// says a part.
+pub type Opened = io::Result<(Expected<Value>, u64)>;
+
 /// A message: type byte, count and bogus count, the place of the first item, the items, and the
 /// next place. GetPeers has none of these; SyncInfo and Unknown end with the body.
 pub fn from_frame(code: u8, body: &[u8], cap: u64, mainnet: u8) -> Expected {
-    Expected::Rust(answer(opened(code, body, cap, mainnet)))
+    expected(opened(code, body, cap, mainnet))
+}
+
+fn expected(opened: Opened) -> Expected {
+    match opened {
+        Ok((message, next)) => message.map(|message| Answer::Reached(message, next)),
+        Err(e) => Expected::Rust(Answer::Refused(number(&e))),
+    }
 }
 
 /// A message opened, as `from_frame` tells of it.
-pub fn opened(code: u8, body: &[u8], cap: u64, mainnet: u8) -> Reading {
-    match of_code(code, body)? {
-        ProtocolMessage::GetPeers => Ok((Value::counted([0; 4], []), 0)),
-        ProtocolMessage::Peers { body } => peers(&body, cap, mainnet),
+pub fn opened(code: u8, body: &[u8], cap: u64, mainnet: u8) -> Opened {
+    let (fields, next) = match of_code(code, body)? {
+        ProtocolMessage::Peers { body } => return peers(&body, cap, mainnet),
+        ProtocolMessage::GetPeers => (Value::counted([0; 4], []), 0),
         ProtocolMessage::Inv { modifier_type, ids }
         | ProtocolMessage::ModifierRequest { modifier_type, ids } => {
             let (count, first) = counted(body)?;
             let items = ids.iter().map(|id| Value::Bytes(id.to_vec()));
             let numbers = [modifier_type.into(), ids.len() as u64, 0, first];
-            Ok((Value::counted(numbers, items), first + ID * count))
+            (Value::counted(numbers, items), first + ID * count)
         }
         ProtocolMessage::ModifierResponse { modifier_type, modifiers } => {
             let (_, first) = counted(body)?;
             let items = modifiers.iter().flat_map(|(id, bytes)| [id.to_vec(), bytes.clone()]);
             let numbers = [modifier_type.into(), modifiers.len() as u64, 0, first];
             let next = payload_places(body, first, &modifiers).1;
-            Ok((Value::counted(numbers, items.map(Value::Bytes)), next))
+            (Value::counted(numbers, items.map(Value::Bytes)), next)
         }
         ProtocolMessage::SyncInfo { body: kept } | ProtocolMessage::Unknown { body: kept, .. } => {
-            Ok((Value::counted([0; 4], []), kept.len() as u64))
+            (Value::counted([0; 4], []), kept.len() as u64)
         }
-    }
+    };
+    Ok((Expected::Rust(fields), next))
 }
 
 fn of_code(code: u8, body: &[u8]) -> io::Result<ProtocolMessage> {
@@ -64,31 +75,33 @@ fn counted(body: &[u8]) -> io::Result<(u64, u64)> {
 
 // ---- Peers
 
-/// The Rust's `parse_peers_body`, and its `is_bogus_address` of each entry.
+/// The Rust's `parse_peers_body`, and its `is_bogus_address` of each entry that it is asked about.
 pub fn read_peers_body(body: &[u8], cap: u64, mainnet: u8) -> Expected {
-    Expected::Rust(answer(peers(body, cap, mainnet)))
+    expected(peers(body, cap, mainnet))
 }
 
-fn peers(body: &[u8], cap: u64, mainnet: u8) -> Reading {
+fn peers(body: &[u8], cap: u64, mainnet: u8) -> Opened {
     let specs = parse_peers_body(body, cap as usize)?;
-    let bogus = specs.iter().filter(|spec| is_bogus(spec, mainnet)).count() as u64;
     let places = entry_places(body, specs.len())?;
     let entries = specs.iter().zip(&places).map(|(spec, at)| entries::entry(0, body, *at, spec));
     let entries: Vec<Value> = entries.collect::<io::Result<_>>()?;
-    let numbers = [0, specs.len() as u64, bogus, places[0]];
-    Ok((Value::counted(numbers, entries), places[specs.len()]))
+    let message = bogus_count(&specs, mainnet)
+        .map(|bogus| Value::counted([0, specs.len() as u64, bogus, places[0]], entries));
+    Ok((message, places[specs.len()]))
 }
 
 /// How many entries a Peers body has, and how many of them have a bogus address, as a line says it.
 pub fn counts(body: &[u8], cap: u64, mainnet: u8) -> io::Result<String> {
     let specs = parse_peers_body(body, cap as usize)?;
-    let bogus = specs.iter().filter(|spec| is_bogus(spec, mainnet)).count();
+    let bogus = bogus_count(&specs, mainnet).into_answer();
     Ok(format!(" entries {} bogus {bogus}", specs.len()))
 }
 
-/// No address isn't bogus.
-fn is_bogus(spec: &PeerSpec, mainnet: u8) -> bool {
-    spec.address.is_some_and(|address| is_bogus_address(address, network(mainnet)))
+/// How many entries have a bogus address. No address isn't bogus.
+fn bogus_count(specs: &[PeerSpec], mainnet: u8) -> Expected<u64> {
+    let addresses = specs.iter().filter_map(|spec| spec.address);
+    let answers: Expected<Vec<bool>> = addresses.map(|address| judged(address, mainnet)).collect();
+    answers.map(|answers| answers.into_iter().filter(|bogus| *bogus).count() as u64)
 }
 
 /// Where each of the first so many entries of a body stands, and where they end.

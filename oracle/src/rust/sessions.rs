@@ -15,17 +15,21 @@ pub fn step(s: &[u8], at: u64, mainnet: u8, cap: u64) -> Expected {
     if at > s.len() as u64 {
         return refused(12);
     }
-    Expected::Rust(match opened(s, at, mainnet, cap) {
-        Ok((item, end)) => Answer::Reached(item, end),
-        Err(ending) => Answer::Is(ending),
-    })
+    match opened(s, at, mainnet, cap) {
+        Ok((item, end)) => item.map(|item| Answer::Reached(item, end)),
+        Err(ending) => Expected::Rust(Answer::Is(ending)),
+    }
 }
 
 /// All items of a session in order, each with its end, then how the session ends.
 pub fn walk(s: &[u8], mainnet: u8, cap: u64) -> Expected {
     let (items, ending) = each(|at| opened(s, at, mainnet, cap));
-    let items = items.into_iter().flat_map(|(item, end)| [item, Value::Unsigned(end)]);
-    Expected::Rust(Answer::Is(Value::List(items.chain([ending]).collect())))
+    let items = items.into_iter().map(|(item, end)| item.map(|item| [item, Value::Unsigned(end)]));
+    let items: Expected<Vec<[Value; 2]>> = items.collect();
+    items.map(|items| {
+        let values = items.into_iter().flatten().chain([ending]);
+        Answer::Is(Value::List(values.collect()))
+    })
 }
 
 /// All items of a session by value, and how the session ends.
@@ -68,16 +72,18 @@ fn found(s: &[u8], at: u64, mainnet: u8) -> Result<(Found, u64), Value> {
 }
 
 /// The item at a place with its end, or how the session ends there.
-fn opened(s: &[u8], at: u64, mainnet: u8, cap: u64) -> Result<(Value, u64), Value> {
+fn opened(s: &[u8], at: u64, mainnet: u8, cap: u64) -> Result<(Expected<Value>, u64), Value> {
     let (frame, end) = match found(s, at, mainnet)? {
-        (Found::Handshake(spec), size) => return Ok((handshake(s, &spec, mainnet), size)),
+        (Found::Handshake(spec), size) => {
+            return Ok((Expected::Rust(handshake(s, &spec, mainnet)), size))
+        }
         (Found::Frame(frame), end) => (frame, end),
     };
     let (fields, next) =
         messages::opened(frame.code, &frame.body, cap, mainnet).map_err(|e| stop("body", e, at))?;
     let length = frame.body.len() as u64;
     let numbers = [at, frame.code.into(), end - length, length];
-    Ok((message(numbers, fields, next), end))
+    Ok((fields.map(|fields| message(numbers, fields, next)), end))
 }
 
 /// The fields of a handshake and its verdict.
