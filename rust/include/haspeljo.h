@@ -186,7 +186,7 @@ uint8_t haspeljo_is_utf8(const uint8_t *s, size_t n);
 /* Returns 1 if the address, its first byte highest, is bogus, otherwise 0. The port plays no part. */
 uint8_t haspeljo_is_bogus_v4(uint32_t address, uint16_t port, uint8_t mainnet);
 
-/* The same for IPv6, by the high and the low half. */
+/* The same for IPv6, by the high and the low half. Bogus on mainnet are also 2001:db8::/32 and 3fff::/20. */
 uint8_t haspeljo_is_bogus_v6(uint64_t high, uint64_t low, uint16_t port, uint8_t mainnet);
 
 /* r: the BLAKE2b digest of 32 bytes, no key. Refuses nothing. */

@@ -69,7 +69,8 @@ impl fmt::Display for Address {
     }
 }
 
-/// Whether no peer of the network can have the address.
+/// Whether no peer of the network can have the address. On mainnet documentation space is such, 2001:db8::/32
+/// and 3fff::/20.
 pub fn is_bogus(address: IpAddr, network: Network) -> bool {
     match address {
         IpAddr::V4(ip) => calls::is_bogus_v4(ip.to_bits(), network),

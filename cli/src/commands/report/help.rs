@@ -16,8 +16,8 @@ Lines:
   END      the place after an item's last byte
   VERSION  what the peer says its version is
   ENTRIES  how many entries a Peers message has
-  BOGUS    how many of them have an address that no peer of the network can have, as a private
-           one on mainnet; no address is not bogus
+  BOGUS    how many of them have an address that no peer of the network can have, as on mainnet
+           a private one or one of documentation space; no address is not bogus
   LENGTH   how many bytes the capture has: the last item ends with the last byte
   LAYER    where it stops: in the handshake, in the frame of a message, or in the body that a
            whole frame holds
