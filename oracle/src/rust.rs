@@ -241,6 +241,8 @@ pub fn frame_check(s: &[u8]) -> Expected {
 #[cfg(test)]
 mod tests {
     use super::*;
+    use crate::cases::addresses::near_v6;
+    use crate::rng::Rng;
 
     /// Who judges an address on mainnet and on testnet, and how.
     fn judges(text: &str) -> [Expected<bool>; 2] {
@@ -257,6 +259,20 @@ mod tests {
             assert_eq!(judges(outside), [false, false].map(Expected::Rust), "{outside}");
         }
         assert_eq!(judges("2001:db8::"), [true, false].map(Expected::Rust));
-        assert_eq!(judges("::3fff:0"), [false, false].map(Expected::Rust));
+    }
+
+    #[test]
+    fn the_rust_is_asked_about_every_other_address() {
+        let mut rng = Rng::new(1, 0, 0);
+        let mut inside = 0;
+        for _ in 0..100_000 {
+            let address = near_v6(&mut rng);
+            let judge = judged(SocketAddr::new(Ipv6Addr::from(address).into(), 0), 1);
+            assert_eq!(judge.is_document(), address >> 108 == 0x3fff0, "{address:x}");
+            inside += judge.is_document() as u32;
+        }
+        assert!((5_000..20_000).contains(&inside), "{inside}");
+        let v4 = |n: u32| judged(SocketAddr::new(Ipv4Addr::from(n << 16).into(), 0), 1);
+        assert!((0..1 << 16).all(|n| !v4(n).is_document()));
     }
 }

@@ -3,10 +3,10 @@
 use Prim.Native.Nat.{ℕ, zero, _+_, _*_, _-_, _/_, _%_, _^_, _≤_, _<_}
 use native.Mathlib.Nat.{div-add-mod', div-eq-of-lt-le, div-lt-iff-lt-mul, le-div-iff-mul-le}
 use native.Mathlib.Omega.{arith}
-use mathlib.Core.Path.{_≡_, refl, ap, sym, _∙_}
+use mathlib.Core.Path.{_≡_, refl, ap, _∙_}
 use mathlib.Core.Logic.{⊎-elim}
 use mathlib.Core.List.{List, [], _∷_, _++_, List·Memᴰ, List·Memᴰ·not-nil, List·Memᴰ·cases-cons}
-use mathlib.Core.Bool.{Bool, true, false, _||_, _&&_, and-eq-true-iff, or-true}
+use mathlib.Core.Bool.{Bool, true, false, _||_, _&&_, and-eq-true-iff}
 use lib.Dec.{eqb, leb, ltb}
 use lib.Pow.{pow-pos}
 use borrow.Author.Tests.{eq-eqb, ne-eqb, le-leb, lt-leb, eqb-true, ltb-true, leb-true, leb-false}
@@ -100,17 +100,12 @@ pub edges-v6 : (row : Range) → List·Memᴰ row (alwaysV6 ++ mainnetV6) → Ed
 unfolding everyRow wellFormed last alwaysV6 mainnetV6
 edges-v6 row m = edges 128 row (every-row (wellFormed 128) (alwaysV6 ++ mainnetV6) refl row m)
 
-or-swap : (p q r : Bool) → (p || (q || r)) ≡ (q || (p || r))
-or-swap true q r = sym (or-true q)
-or-swap false q r = refl
-
--- one row more adds the addresses that it contains, and the others are left to the other rows
-pub one-more : (width a : ℕ) (before : List Range) (row : Range) (after : List Range)
-    → someContains width (before ++ (row ∷ after)) a ≡ (contains width row a || someContains width (before ++ after) a)
+-- an address that a row does not contain is judged by the other rows
+pub others : (width a : ℕ) (before : List Range) (row : Range) (after : List Range) → contains width row a ≡ false
+    → someContains width (before ++ (row ∷ after)) a ≡ someContains width (before ++ after) a
 unfolding someContains
-one-more width a [] row after = refl
-one-more width a (r ∷ before) row after =
-    rw (one-more width a before row after) (or-swap (contains width r a) (contains width row a) (someContains width (before ++ after) a))
+others width a [] row after h = simp h
+others width a (r ∷ before) row after h = ap (λ (t : Bool). contains width r a || t) (others width a before row after h)
 
 -- the port plays no part
 pub port-v4 : (ip p q : ℕ) (network : Network) → bogus (V4 ip p) network ≡ bogus (V4 ip q) network

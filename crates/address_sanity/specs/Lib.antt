@@ -1,5 +1,5 @@
 pub mod Ranges
 pub mod Bogus
 pub mod BogusLaws
-pub mod Rfc9637Laws
+pub mod IntervalLaws
 pub mod Cases

@@ -9,3 +9,4 @@ pub mod WritesLaws
 pub mod WriterOrder
 pub mod OrderCases
 pub mod Bogus
+pub mod BogusLaws

@@ -35,7 +35,7 @@ fn main() {
         }
     }
     println!(
-        "{tally}\nseed {seed}: {count} lists, {documented} of them with addresses of 3fff::/20, \
+        "{tally}\nseed {seed}: {count} lists, {documented} of them with Peers of 3fff::/20, \
          {differed} differed"
     );
     let mut missing = if count < WHOLE { vec![] } else { tally.missing() };

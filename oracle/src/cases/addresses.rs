@@ -65,11 +65,21 @@ pub fn near_v4(rng: &mut Rng) -> u32 {
     near.nth(rng.below(12) as usize).map_or_else(|| rng.u64() as u32, |n| n as u32)
 }
 
-/// An address at an end of a range, or any.
+/// An address at an end of a range, anywhere in a range, or any.
 pub fn near_v6(rng: &mut Rng) -> u128 {
     let (first, prefix) = rng.pick(&V6);
-    let mut near = ends(u128::from(Ipv6Addr::from(first)), prefix, 128);
-    near.nth(rng.below(12) as usize).unwrap_or_else(|| segments(rng))
+    let first = u128::from(Ipv6Addr::from(first));
+    match rng.below(14) {
+        n @ 0..8 => ends(first, prefix, 128).nth(n as usize).expect("eight ends"),
+        8..12 => inside_v6(rng, first, prefix),
+        _ => segments(rng),
+    }
+}
+
+/// An address of a range.
+fn inside_v6(rng: &mut Rng, first: u128, prefix: u32) -> u128 {
+    let any = (rng.u64() as u128) << 64 | rng.u64() as u128;
+    first | any.checked_shr(prefix).unwrap_or(0)
 }
 
 fn v4_case(address: u32, port: u64, mainnet: u64) -> Case {
@@ -120,8 +130,8 @@ pub fn v6() -> Vec<Kind> {
             }
         }),
         Kind::random("3fff::/20", 1_000_000, |rng, visit| {
-            let low = ((rng.u64() as u128) << 64 | rng.u64() as u128) >> 20;
-            visit(&v6_case(0x3fff << 112 | low, rng.below(65536), network(rng)));
+            let address = inside_v6(rng, 0x3fff << 112, 20);
+            visit(&v6_case(address, rng.below(65536), network(rng)));
         }),
     ]
 }
