@@ -44,8 +44,7 @@ fn is_always_bogus_v4(ip: u32) -> bool
 fn is_always_bogus_v6(high: u64, low: u64) -> bool
     ensures { λ r. ⌜ r ≡ someContains 128 alwaysV6 (high * 2 ^ 64 + low) ⌝ }
 {
-    (high == 0) & (low == 1) // ::1/128
-        | (high == 0) & (low == 0) // ::/128
+    (high == 0) & ((low == 1) | (low == 0)) // ::1/128, ::/128
         | (high >> 56 == 0xff) // ff00::/8
         | (high >> 54 == 0xfe80 >> 6) // fe80::/10
         | (high == 0) & (low >> 32 == 0xffff) // ::ffff:0:0/96
