@@ -3,25 +3,23 @@
 use crate::rows::Row;
 use std::os::raw::{c_int, c_long};
 
-/// A sample is the fastest of so many rounds, in which the sides are timed by turns: other programs
-/// on the machine only ever add to a time.
-const ROUNDS: usize = 15;
+/// So many rounds are taken at a time.
+pub const ROUNDS: usize = 9;
 
-/// No further round begins once a sample has taken so many milliseconds.
-const LONG: f64 = 2_000.0;
+/// No further round begins once they have taken so many milliseconds.
+const LONG: f64 = 250.0;
 
-/// The fastest time of each side, ours first.
-pub fn sample(row: &mut Row) -> Vec<f64> {
-    let mut fastest = vec![f64::INFINITY; row.sides.len()];
+/// Makes each side's time the fastest of itself and a few rounds, in which the sides are timed by turns, ours first: other
+/// programs on the machine only ever add to a time.
+pub fn lower(fastest: &mut [f64], row: &mut Row) {
     let begin = thread();
     for _ in (0..ROUNDS).take_while(|_| thread() - begin < LONG) {
-        for (side, fastest) in row.sides.iter_mut().zip(&mut fastest) {
+        for (side, fastest) in row.sides.iter_mut().zip(&mut *fastest) {
             let start = thread();
             (side.run)();
             *fastest = fastest.min(thread() - start);
         }
     }
-    fastest
 }
 
 pub fn median(mut numbers: Vec<f64>) -> f64 {

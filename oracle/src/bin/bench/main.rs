@@ -9,14 +9,19 @@ mod through;
 mod values;
 mod writings;
 
+use report::Report;
 use rows::Row;
 use std::hint::black_box;
 use std::os::unix::process::CommandExt;
 use std::process::{Command, ExitCode};
 use std::{env, iter};
 
-/// The median of so many samples counts. The samples of all rows are taken by turns.
+/// The median of so many samples counts.
 const SAMPLES: usize = 7;
+
+/// The rounds of a sample are taken in so many passes over all samples: what slows the machine for some seconds is in a
+/// few rounds of each, and not in all rounds of one.
+const PASSES: usize = 5;
 
 /// The largest time per MiB of sessions may be so much of the smallest.
 const GROWTH: f64 = 1.15;
@@ -30,11 +35,12 @@ fn main() -> ExitCode {
     }
     let mut rows: Vec<Row> =
         [readings::rows(), writings::rows(), through::rows()].into_iter().flatten().collect();
-    let samples = samples(&mut rows);
+    let mut beside = Report::new();
+    let samples = samples(&mut rows, &mut beside);
     let mut above: Vec<String> =
         rows.iter().zip(&samples).flat_map(|(row, samples)| row.report(samples)).collect();
     above.extend(growth(&rows, &samples));
-    above.extend(report::beside_walk().err());
+    above.extend(beside.print().err());
     above.extend(memory::resident().err());
     above.extend(memory::symbols().err());
     println!();
@@ -59,23 +65,30 @@ fn again() -> ExitCode {
 }
 
 /// Of each row its samples, each at another place of the stack: at some places a row is slower by a tenth.
-fn samples(rows: &mut [Row]) -> Vec<Vec<Vec<f64>>> {
-    let mut samples = vec![vec![]; rows.len()];
-    for turn in 0..SAMPLES {
-        for (row, samples) in iter::zip(rows.iter_mut(), &mut samples) {
-            samples.push(deeper(turn, &mut || clock::sample(row)));
+fn samples(rows: &mut [Row], beside: &mut Report) -> Vec<Vec<Vec<f64>>> {
+    let unmeasured = |row: &Row| vec![vec![f64::INFINITY; row.sides.len()]; SAMPLES];
+    let mut samples: Vec<_> = rows.iter().map(unmeasured).collect();
+    for _ in 0..PASSES {
+        for turn in 0..SAMPLES {
+            for (row, samples) in iter::zip(rows.iter_mut(), &mut samples) {
+                deeper(turn, &mut || clock::lower(&mut samples[turn], row));
+            }
         }
+        beside.lower();
     }
     samples
 }
 
 /// Runs so many frames further down the stack.
 #[inline(never)]
-fn deeper(frames: usize, run: &mut dyn FnMut() -> Vec<f64>) -> Vec<f64> {
+fn deeper(frames: usize, run: &mut dyn FnMut()) {
     let frame = black_box([0u8; 272]);
-    let times = if frames == 0 { run() } else { deeper(frames - 1, run) };
+    if frames == 0 {
+        run();
+    } else {
+        deeper(frames - 1, run);
+    }
     black_box(frame);
-    times
 }
 
 /// Prints our time per MiB of the sessions of several lengths: what failed.
