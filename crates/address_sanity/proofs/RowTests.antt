@@ -1,5 +1,6 @@
 -- A chain of tests joined by `|` says whether some row contains the address. Each test is computed from its row: of an IPv4 address on its
--- number, of an IPv6 address on its two halves. So a function's whole chain is its list of rows, by computation.
+-- number, of an IPv6 address on its two halves. So a function's whole chain is its list of rows, by computation; of `is_always_bogus_v6` once
+-- its first two tests are written apart.
 use Prim.Native.Nat.{ℕ, zero, suc, _+_, _*_, _-_, _/_, _%_, _^_, _≤_, _<_}
 use native.Mathlib.Nat.{div-one, div-add-mod'}
 use native.Mathlib.Omega.{arith}

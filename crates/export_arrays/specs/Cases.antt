@@ -1,5 +1,5 @@
 -- Each array, of a record whose every number is another: the row as rust/include/haspeljo.h lists it, written out.
-use Prim.Native.Nat.{ℕ}
+use Prim.Native.Nat.{ℕ, suc}
 use mathlib.Core.List.{List, [], _∷_, map}
 use mathlib.Core.Option.{none, some}
 use mathlib.Core.Path.{_≡_, refl}
@@ -198,6 +198,6 @@ unfolding stepNumber
 step-numbers = refl
 
 -- 0 for testnet, any other number for mainnet
-pub networks : map networkOf (0 ∷ 1 ∷ 2 ∷ 255 ∷ []) ≡ (Testnet ∷ Mainnet ∷ Mainnet ∷ Mainnet ∷ [])
+pub networks : (networkOf 0 ≡ Testnet) × ((n : ℕ) → networkOf (suc n) ≡ Mainnet)
 unfolding networkOf
-networks = refl
+networks = (refl, λ n. refl)

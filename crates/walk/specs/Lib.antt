@@ -12,6 +12,7 @@ pub mod GrowsLaws
 pub mod WrittenLaws
 pub mod CallsLaws
 pub mod SessionLaws
+pub mod VerdictLaws
 pub mod PlacesLaws
 pub mod TheoremsProved
 pub mod DemandsProved
