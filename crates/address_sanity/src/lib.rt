@@ -1,6 +1,8 @@
 // Classifier for addresses that have no business being gossiped as a public peer, after address_sanity.rs.
 // A test compares prefixes: 172.16.0.0/12 is `ip >> 20 == 0xac10 >> 4`, the first 12 bits of 172.16. The tests of a list of ranges stand in the
 // table's order, and `|` joins them to one value.
+#![tactic(auto)]
+
 ghost use Rattle.std.specs.Prelude.{◌≡◌, ◌+◌, ◌*◌, ◌^◌};
 ghost use Rattle.address_sanity.specs.Ranges.{always_v4, always_v6, mainnet_v4, mainnet_v6};
 ghost use Rattle.address_sanity.specs.Bogus.{bogus, is_mainnet, some_contains};

@@ -1,4 +1,6 @@
 // The compression function F of BLAKE2b (RFC 7693, 3.2).
+#![tactic(auto)]
+
 ghost use Rattle.std.specs.Prelude.{◌≡◌, ◌+◌, ◌*◌, ◌^◌, ◌<◌, ◌++◌};
 ghost use Rattle.blake2b.specs.Blake2b.{◌>>>◌, IV as Blake2b-as-IV, round, for, F};
 ghost use Rattle.blake2b_compress.specs.Parts.{half_columns, half_diagonals, add_words, half_start, half_end, kept, on_columns, on_diagonals, four, work, xored};

@@ -1,4 +1,6 @@
 // BLAKE2b with 32 bytes of output and no key (RFC 7693).
+#![tactic(auto)]
+
 ghost use Rattle.std.specs.Prelude.{◌≡◌, ◌+◌, ◌-◌, ◌*◌, ◌/◌, ◌%◌, ◌^◌, ◌≤◌, length};
 ghost use Rattle.blake2b.specs.Blake2b.{dd, blake2b256, check as Blake2b·check};
 ghost use Rattle.blake2b_hash.specs.Running.{started, stepped, absorbed, ended, finished};
@@ -7,7 +9,7 @@ mod bytes;
 pub mod lent;
 
 // A running hash: the state h, and the low and high word of the offset counter t.
-#[derive(Drop)]
+#[derive(Clone, Copy)]
 pub struct Hash {
     pub h: [u64; 8],
     pub t0: u64,

@@ -1,4 +1,6 @@
 // RFC 7693's Appendix A, and digests of the bytes 0, 1, .. 255, 0, .. at several lengths, one to a line.
+#![tactic(auto)]
+
 ghost use Rattle.std.specs.Prelude.{◌+◌, ◌≤◌, length};
 
 use blake2b_hash::Hash;

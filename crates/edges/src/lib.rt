@@ -1,1 +1,3 @@
 // The cases of document 01 at the edges.
+#![tactic(auto)]
+

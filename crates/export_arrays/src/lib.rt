@@ -1,4 +1,6 @@
 // What stands in the arrays that Rust and C are given: the numbers of each answer, in a row.
+#![tactic(auto)]
+
 ghost use Rattle.std.specs.Prelude.{◌≡◌};
 ghost use Rattle.export_arrays.specs.Networks.{network_of};
 

@@ -1,4 +1,6 @@
 // What `build` is given, from the numbers that Rust and C pass.
+#![tactic(auto)]
+
 ghost use Rattle.std.specs.Prelude.{true, ◌≡◌};
 ghost use Rattle.export_config.specs.Configs.{is_set, mode_of, address_from, address_numbers, config_read};
 
@@ -6,7 +8,7 @@ use handshake_build::Config;
 use types::{Address, Network, ProxyMode, Version};
 
 // What `build` is given, or the refusal's number.
-#[derive(Drop)]
+#[derive(Clone, Copy)]
 pub enum ConfigRead {
     Value(Config),
     Refused(u8),

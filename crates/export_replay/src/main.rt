@@ -1,5 +1,7 @@
 // Reads a file of frozen cases from standard input, asks the library each case, and prints the answers, one line for each case.
 // A case is the function's number (a byte), the length of its input (two bytes, little-endian), and the input.
+#![tactic(auto)]
+
 ghost use Rattle.std.specs.Prelude.{◌≤◌, length};
 
 use libc::{STDIN_FILENO, STDOUT_FILENO};

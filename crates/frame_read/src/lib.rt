@@ -1,4 +1,6 @@
 // Frames, read from lent bytes (transport/frame.rs).
+#![tactic(auto)]
+
 ghost use Rattle.std.specs.Prelude.{◌≡◌, ◌≤◌, length};
 ghost use Rattle.wire.specs.Reader.{map_answer};
 ghost use Rattle.vlq.specs.Vlq.{limit};
@@ -13,27 +15,27 @@ use wire_numbers::big_endian_4;
 const CHECK_SIZE: usize = 4;
 
 // Consecutive bytes of the stream: where they start, and how many they are.
-#[derive(Drop)]
+#[derive(Clone, Copy)]
 pub struct StreamPart {
     pub start: StreamPlace,
     pub len: usize,
 }
 
 // What is read of a frame: its code, and where its body stands.
-#[derive(Drop)]
+#[derive(Clone, Copy)]
 pub struct Frame {
     pub code: u8,
     pub body: StreamPart,
 }
 
 // A frame and the place where it ends, or the refusal's number.
-#[derive(Drop)]
+#[derive(Clone, Copy)]
 pub enum FrameRead {
     Value(Frame, StreamPlace),
     Refused(u8),
 }
 
-#[derive(Drop)]
+#[derive(Clone, Copy)]
 enum BodyRead {
     Value(StreamPart, StreamPlace),
     Refused(u8),

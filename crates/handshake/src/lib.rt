@@ -1,5 +1,7 @@
 // Entries and handshakes: their definitions and laws, in specs/. Readers stand in handshake_address_read, handshake_read and
 // handshake_verdict, writers in handshake_entry_write, handshake_write and handshake_build.
+#![tactic(auto)]
+
 
 // Ids of features.
 pub const FEATURE_MODE: u8 = 16;
@@ -27,7 +29,7 @@ pub const ENTRY_ROW_SIZE: usize = 12;
 // A writer gets lists as tables of u32 beside a lent buffer; these are the rows.
 
 // A feature: its id, and the place and length of its body in the buffer.
-#[derive(Drop)]
+#[derive(Clone, Copy)]
 pub struct FeatureRow {
     pub id: u32,
     pub at: u32,
@@ -36,7 +38,7 @@ pub struct FeatureRow {
 
 // An entry: the place and length of its agent, three version numbers, the place and length of its name, the address length byte L
 // (0: none, its place unread), the place of its L - 4 bytes, the port, the first row of its features and their number.
-#[derive(Drop)]
+#[derive(Clone, Copy)]
 pub struct EntryRow {
     pub agentat: u32,
     pub agentlen: u32,

@@ -1,4 +1,6 @@
 // Addresses of entries, read from lent bytes (transport/handshake.rs).
+#![tactic(auto)]
+
 ghost use Rattle.std.specs.Prelude.{◌≡◌, ◌+◌, ◌-◌, ◌≤◌, length, take, drop};
 ghost use Rattle.handshake.specs.Entry.{address_of, address};
 ghost use Rattle.handshake_address_read.specs.DeclaredAddress.{declared_address};
@@ -9,7 +11,7 @@ use types::Address;
 use vlq::{ByteRead, Cursor, PartRead, VlqRead};
 use wire_numbers::{big_endian_4, big_endian_8};
 
-#[derive(Drop)]
+#[derive(Clone, Copy)]
 pub enum AddressRead {
     Value(Address, Cursor),
     Refused(u8),

@@ -1,5 +1,7 @@
 // The address of an entry, written into a lent output from a place: what `build` is given as a value (transport/handshake.rs).
 // The room is asked first, and bytes are stored only where there is some.
+#![tactic(auto)]
+
 ghost use Rattle.std.specs.Prelude.{◌≡◌, [], ◌∷◌, ◌++◌, ◌+◌, ◌≤◌, length};
 ghost use Rattle.wire.specs.Bytes.{big_endian_bytes};
 ghost use Rattle.wire.specs.Output.{put, written, output_after};

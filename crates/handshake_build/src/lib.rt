@@ -1,5 +1,7 @@
 // A handshake from its values (transport/handshake.rs `build`), written into a lent output from a place.
 // Every question is asked first, and bytes are stored only once each is answered "yes".
+#![tactic(auto)]
+
 ghost use Rattle.std.specs.Prelude.{◌≡◌, ◌∷◌, ◌++◌, ◌+◌, ◌^◌, ◌≤◌, ◌<◌, length};
 ghost use Rattle.wire.specs.Output.{put, output_after, Wrote};
 ghost use Rattle.vlq.specs.Vlq.{vlq_bytes};
@@ -18,7 +20,7 @@ use wire_output::ask_output;
 
 // What `build` is given beside agent and name. In the Mode feature: the state type byte, whether transactions are verified, and how many
 // blocks are kept.
-#[derive(Drop)]
+#[derive(Clone, Copy)]
 pub struct Config {
     pub network: Network,
     pub mode: ProxyMode,

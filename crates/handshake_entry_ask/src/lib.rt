@@ -1,5 +1,7 @@
 // What is asked of entries before they are written from a table of rows beside a lent buffer (document 01, "Questions", Writers): how many bytes
 // they are written as, or the number of the first question answered "no".
+#![tactic(auto)]
+
 ghost use Rattle.std.specs.Prelude.{◌||◌, true, ◌≡◌, ℕ, ◌+◌, ◌-◌, ◌/◌, ◌≤◌, min, eqb, leb, length};
 ghost use mathlib.Core.List.{List, [], ◌∷◌, map, flat_map};
 ghost use Rattle.wire.specs.Bytes.{every};

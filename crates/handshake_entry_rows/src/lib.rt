@@ -1,4 +1,6 @@
 // Rows of the tables that entries are written from, and question 16 of the tables (document 01, "Questions", Writers).
+#![tactic(auto)]
+
 ghost use Rattle.std.specs.Prelude.{◌≡◌, [], ◌+◌, ◌-◌, ◌*◌, ◌/◌, ◌≤◌, length};
 ghost use Rattle.wire.specs.Bytes.{every};
 ghost use Rattle.handshake.specs.Tables.{tables, rows, feature_row, entry_row, feature_numbers, entry_numbers, tables_whole};

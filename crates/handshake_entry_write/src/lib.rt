@@ -1,5 +1,7 @@
 // Entries, written from a table of rows beside a lent buffer (transport/handshake.rs, serialize_peer_entry).
 // A writer asks all its questions first and stores only once each is answered "yes".
+#![tactic(auto)]
+
 ghost use Rattle.std.specs.Prelude.{◌||◌, true, ◌≡◌, ◌+◌, ◌-◌, ◌/◌, ◌≤◌, eqb, leb, length};
 ghost use mathlib.Core.List.{[], ◌∷◌, map, flat_map};
 ghost use Rattle.wire.specs.Bytes.{every};

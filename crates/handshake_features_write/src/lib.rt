@@ -1,5 +1,7 @@
 // The features Mode and Session that `build` gives a handshake (transport/handshake.rs), written into a lent output from a place.
 // Each writer asks the room first and stores only where there is some.
+#![tactic(auto)]
+
 ghost use Rattle.std.specs.Prelude.{Bool, cond, ◌≡◌, [], ℕ, ◌+◌, ◌≤◌, length};
 ghost use Rattle.wire.specs.Output.{put, written, output_after, Wrote};
 ghost use Rattle.types.specs.declared.Network.{Network};

@@ -1,4 +1,6 @@
 // Entries and handshakes, read from lent bytes (transport/handshake.rs). The readers of an address stand in handshake_address_read.
+#![tactic(auto)]
+
 ghost use Rattle.std.specs.Prelude.{◌≡◌};
 ghost use Rattle.wire.specs.Reader.{and_then, place, map_answer, list_of};
 ghost use Rattle.handshake.specs.Entry.{version, feature, entry, handshake};
@@ -12,14 +14,14 @@ use vlq::{ByteRead, Cursor, PartRead, VlqRead};
 use wire::Part;
 
 // The features of an entry: how many there are, and the place of the first.
-#[derive(Drop)]
+#[derive(Clone, Copy)]
 pub struct Features {
     pub count: u8,
     pub start: usize,
 }
 
 // What is read of an entry.
-#[derive(Drop)]
+#[derive(Clone, Copy)]
 pub struct PeerSpec {
     pub agent: Part,
     pub version: Version,
@@ -29,45 +31,45 @@ pub struct PeerSpec {
 }
 
 // A feature: its id, and where its body stands.
-#[derive(Drop)]
+#[derive(Clone, Copy)]
 pub struct Feature {
     pub id: u8,
     pub body: Part,
 }
 
 // What is read of a handshake.
-#[derive(Drop)]
+#[derive(Clone, Copy)]
 pub struct Handshake {
     pub timestamp: u64,
     pub peer: PeerSpec,
 }
 
-#[derive(Drop)]
+#[derive(Clone, Copy)]
 pub enum FeatureRead {
     Value(Feature, Cursor),
     Refused(u8),
 }
 
-#[derive(Drop)]
+#[derive(Clone, Copy)]
 pub enum EntryRead {
     Value(PeerSpec, Cursor),
     Refused(u8),
 }
 
-#[derive(Drop)]
+#[derive(Clone, Copy)]
 pub enum HandshakeRead {
     Value(Handshake, Cursor),
     Refused(u8),
 }
 
-#[derive(Drop)]
+#[derive(Clone, Copy)]
 pub enum SizeRead {
     Size(usize),
     Refused(u8),
 }
 
 // An entry without its features.
-#[derive(Drop)]
+#[derive(Clone, Copy)]
 struct Head {
     agent: Part,
     version: Version,
@@ -75,25 +77,25 @@ struct Head {
     address: Address,
 }
 
-#[derive(Drop)]
+#[derive(Clone, Copy)]
 enum VersionRead {
     Value(Version, Cursor),
     Refused(u8),
 }
 
-#[derive(Drop)]
+#[derive(Clone, Copy)]
 enum HeadRead {
     Value(Head, Cursor),
     Refused(u8),
 }
 
-#[derive(Drop)]
+#[derive(Clone, Copy)]
 enum FeaturesEndRead {
     Value(Cursor),
     Refused(u8),
 }
 
-#[derive(Drop)]
+#[derive(Clone, Copy)]
 enum FeaturesRead {
     Value(Features, Cursor),
     Refused(u8),

@@ -1,5 +1,7 @@
 // What a handshake or an entry says of the peer: the verdict on it, and its REST API URL (transport/handshake.rs). Each is read from the bytes, or
 // found from what was read of them already.
+#![tactic(auto)]
+
 ghost use Rattle.std.specs.Prelude.{◌≡◌, ◌+◌, ◌≤◌, length};
 ghost use Rattle.wire.specs.Reader.{map_answer};
 ghost use Rattle.handshake.specs.Entry.{entry, handshake};
@@ -15,26 +17,26 @@ use types::{Network, Version};
 use vlq::{Cursor, PartRead};
 use wire::Part;
 
-#[derive(Drop)]
+#[derive(Clone, Copy)]
 pub enum VerdictRead {
     Value(u8, Cursor),
     Refused(u8),
 }
 
-#[derive(Drop)]
+#[derive(Clone, Copy)]
 pub enum Url {
     At(Part),
     None,
 }
 
-#[derive(Drop)]
+#[derive(Clone, Copy)]
 pub enum UrlRead {
     Value(Url, Cursor),
     Refused(u8),
 }
 
 // The first feature with some id.
-#[derive(Drop)]
+#[derive(Clone, Copy)]
 pub enum Found {
     At(Feature),
     None,

@@ -1,5 +1,7 @@
 // A timestamp with the entry in a row of a table, written into a lent output from a place (transport/handshake.rs).
 // The writer asks all its questions first and stores only once each is answered "yes".
+#![tactic(auto)]
+
 ghost use Rattle.std.specs.Prelude.{◌≡◌, ◌^◌, ◌<◌, true, ltb};
 ghost use Rattle.wire.specs.Bytes.{every};
 ghost use Rattle.wire.specs.Output.{output_after};

@@ -1,5 +1,7 @@
 // The functions that Rust and C link. One that can refuse returns 0, or document 01's refusal number with the lent array and output as they were.
 // A slice passes as a pointer and a length, an array as a pointer.
+#![tactic(auto)]
+
 ghost use Rattle.std.specs.Prelude.{◌≡◌};
 ghost use Rattle.wire.specs.Reader.{byte, part, part_of, map_answer};
 ghost use Rattle.vlq_utf8.specs.Utf8.{utf8};

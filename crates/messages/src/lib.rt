@@ -1,5 +1,7 @@
 // Message bodies: their definitions and laws, in specs/. Readers stand in messages_inventory_read, messages_response_read, messages_peers_read and messages_read, writers
 // in messages_opaque_write, messages_inventory_write, messages_response_write and messages_peers_write.
+#![tactic(auto)]
+
 
 // Codes of messages.
 pub const GET_PEERS: u8 = 1;
@@ -26,7 +28,7 @@ pub const PAYLOAD_ROW_SIZE: usize = 3;
 // A writer gets payloads as a table of u32 beside a lent buffer; this is a row.
 
 // A payload: the place of its id, and the place and length of its bytes in the buffer.
-#[derive(Drop)]
+#[derive(Clone, Copy)]
 pub struct PayloadRow {
     pub id: u32,
     pub at: u32,

@@ -1,4 +1,6 @@
 // A thin reader of a message body: the lent body, and the place where it reads. Each of its functions takes it apart and calls the cursor of `vlq`.
+#![tactic(auto)]
+
 ghost use Rattle.std.specs.Prelude.{◌≡◌};
 ghost use Rattle.wire.specs.Reader.{byte, part, part_of};
 ghost use Rattle.vlq.specs.Vlq.{vlq, vlq_length};
@@ -12,7 +14,7 @@ use messages::MAX_INV_OBJECTS;
 use types::BodyPlace;
 use vlq::{ByteRead, Cursor, PartRead, VlqRead};
 
-#[derive(Drop)]
+#[derive(Clone, Copy)]
 pub struct BodyReader<'a> {
     pub body: &'a [u8],
     pub at: BodyPlace,
@@ -74,13 +76,13 @@ impl<'a> BodyReader<'a> {
 }
 
 // What stands at the start of an Inv, a ModifierRequest and a ModifierResponse body: the type byte and the count.
-#[derive(Drop)]
+#[derive(Clone, Copy)]
 pub struct InventoryHeader {
     pub modifier_type: u8,
     pub count: u64,
 }
 
-#[derive(Drop)]
+#[derive(Clone, Copy)]
 pub enum InventoryHeaderRead {
     Value(InventoryHeader, BodyPlace),
     Refused(u8),

@@ -1,5 +1,7 @@
 // The bodies of ModifierRequest and Inv, read from lent bytes, and what lists of ids and of payloads have in common (protocol/messages.rs). A body
 // begins at its own place 0, and every place here is a place in the body.
+#![tactic(auto)]
+
 ghost use Rattle.std.specs.Prelude.{◌≡◌};
 ghost use Rattle.wire.specs.Reader.{map_answer, part};
 ghost use Rattle.messages.specs.Message.{count, inventory_header};
@@ -11,7 +13,7 @@ use types::BodyPlace;
 use vlq::{ByteRead, Cursor, VlqRead};
 
 // The ids or payloads of a body: its type byte, how many there are, and the place of the first.
-#[derive(Drop)]
+#[derive(Clone, Copy)]
 pub struct Inventory {
     pub modifier_type: u8,
     pub count: usize,
@@ -19,28 +21,28 @@ pub struct Inventory {
 }
 
 // What is given of a body and the place where its reading ends, or the refusal's number.
-#[derive(Drop)]
+#[derive(Clone, Copy)]
 pub enum InventoryRead {
     Value(Inventory, BodyPlace),
     Refused(u8),
 }
 
 // The place of an id.
-#[derive(Drop)]
+#[derive(Clone, Copy)]
 pub enum IdRead {
     Value(BodyPlace),
     Refused(u8),
 }
 
 // A count and the next place.
-#[derive(Drop)]
+#[derive(Clone, Copy)]
 pub enum CountRead {
     Value(usize, Cursor),
     Refused(u8),
 }
 
 // What is given of a body from its type byte and count alone, or the refusal's number.
-#[derive(Drop)]
+#[derive(Clone, Copy)]
 pub enum HeaderRead {
     Value(Inventory),
     Refused(u8),

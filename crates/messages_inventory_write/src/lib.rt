@@ -1,5 +1,7 @@
 // ModifierRequest and Inv, written as whole frames into a lent output from a place (protocol/messages.rs). Each writer asks its questions first and
 // stores only once all are answered "yes".
+#![tactic(auto)]
+
 ghost use Rattle.std.specs.Prelude.{true, ◌≡◌, ◌+◌, ◌*◌, ◌≤◌, length};
 ghost use mathlib.Core.List.{flat_map};
 ghost use Rattle.wire.specs.Output.{put, output_after, Wrote};

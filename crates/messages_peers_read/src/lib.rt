@@ -1,4 +1,6 @@
 // The body of Peers, read from lent bytes (protocol/messages.rs). A body begins at its own place 0, and every place here is a place in the body.
+#![tactic(auto)]
+
 ghost use Rattle.std.specs.Prelude.{◌≡◌, cond, ◌^◌, ◌<◌, suc};
 ghost use Rattle.wire.specs.Reader.{map_answer, list_of};
 ghost use Rattle.address_sanity.specs.Bogus.{bogus};
@@ -15,7 +17,7 @@ use types::{Address, BodyPlace, Network};
 use vlq::Cursor;
 
 // The entries of a Peers body: how many there are, how many have a bogus address, and the place of the first.
-#[derive(Drop)]
+#[derive(Clone, Copy)]
 pub struct Peers {
     pub count: usize,
     pub bogus: usize,
@@ -23,25 +25,25 @@ pub struct Peers {
 }
 
 // What is given of a body and the place where its reading ends, or the refusal's number.
-#[derive(Drop)]
+#[derive(Clone, Copy)]
 pub enum PeersRead {
     Value(Peers, BodyPlace),
     Refused(u8),
 }
 
-#[derive(Drop)]
+#[derive(Clone, Copy)]
 pub enum PeerEntryRead {
     Value(PeerSpec, BodyPlace),
     Refused(u8),
 }
 
-#[derive(Drop)]
+#[derive(Clone, Copy)]
 enum BogusRead {
     Value(usize, Cursor),
     Refused(u8),
 }
 
-#[derive(Drop)]
+#[derive(Clone, Copy)]
 enum EntriesEndRead {
     Value(Cursor),
     Refused(u8),

@@ -1,5 +1,7 @@
 // Peers, written as a whole frame into a lent output from a place (protocol/messages.rs, build_peers_body).
 // The writer asks its questions first and stores only once all are answered "yes".
+#![tactic(auto)]
+
 ghost use Rattle.std.specs.Prelude.{◌≡◌, ◌+◌, ◌/◌, ◌≤◌, true, leb, ltb, length};
 ghost use Rattle.wire.specs.Bytes.{every};
 ghost use Rattle.wire.specs.Output.{output_after};

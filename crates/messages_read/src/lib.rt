@@ -1,5 +1,7 @@
 // A message body as the message of its code, read from lent bytes (protocol/messages.rs). A body begins at its own place 0, and every place here is a
 // place in the body.
+#![tactic(auto)]
+
 ghost use Rattle.std.specs.Prelude.{◌≡◌};
 ghost use Rattle.wire.specs.Reader.{map_answer};
 ghost use Rattle.messages.specs.Message.{message};
@@ -10,7 +12,7 @@ use messages_inventory_read::{Inventory, InventoryRead};
 use messages_peers_read::{Peers, PeersRead};
 use types::{BodyPlace, Network};
 
-#[derive(Drop)]
+#[derive(Clone, Copy)]
 pub enum Message {
     GetPeers,
     Peers(Peers),
@@ -22,7 +24,7 @@ pub enum Message {
 }
 
 // A message and the place where its reading ends, or the refusal's number.
-#[derive(Drop)]
+#[derive(Clone, Copy)]
 pub enum MessageRead {
     Value(Message, BodyPlace),
     Refused(u8),

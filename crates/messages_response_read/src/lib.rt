@@ -1,5 +1,7 @@
 // The body of ModifierResponse, read from lent bytes (protocol/messages.rs). A body begins at its own place 0, and every place here is a place in the
 // body.
+#![tactic(auto)]
+
 ghost use Rattle.std.specs.Prelude.{◌≡◌, ◌+◌, leb, length};
 ghost use Rattle.wire.specs.Reader.{map_answer, list_of};
 ghost use Rattle.messages.specs.Message.{payload_after, payload};
@@ -15,7 +17,7 @@ use types::BodyPlace;
 use vlq::{Cursor, PartRead, VlqRead};
 
 // A payload: the place of its id, and where its bytes stand.
-#[derive(Drop)]
+#[derive(Clone, Copy)]
 pub struct Payload {
     pub id: BodyPlace,
     pub start: BodyPlace,
@@ -23,20 +25,20 @@ pub struct Payload {
 }
 
 // A payload, the next place, and the payload lengths so far, this one included.
-#[derive(Drop)]
+#[derive(Clone, Copy)]
 pub enum PayloadRead {
     Value(Payload, BodyPlace, usize),
     Refused(u8),
 }
 
 // A payload and the place where it ends.
-#[derive(Drop)]
+#[derive(Clone, Copy)]
 pub enum PayloadByIndexRead {
     Value(Payload, BodyPlace),
     Refused(u8),
 }
 
-#[derive(Drop)]
+#[derive(Clone, Copy)]
 enum SumRead {
     Value(BodyPlace, usize),
     Refused(u8),

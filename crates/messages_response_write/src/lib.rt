@@ -1,5 +1,7 @@
 // ModifierResponse, written as a whole frame into a lent output from a place (protocol/messages.rs).
 // The writer asks its questions first and stores only once all are answered "yes".
+#![tactic(auto)]
+
 ghost use Rattle.std.specs.Prelude.{true, ◌&&◌, ◌≡◌, ◌+◌, ◌*◌, ◌/◌, ◌≤◌, leb, length};
 ghost use mathlib.Core.List.{flat_map};
 ghost use Rattle.wire.specs.Bytes.{every};

@@ -1,4 +1,6 @@
 // The report of a session (document 01, "At the edges"): as many lines as fit into a lent output, and the whole of it printed.
+#![tactic(auto)]
+
 ghost use Rattle.std.specs.Prelude.{◌≡◌, ◌%◌, ◌^◌, length};
 ghost use Rattle.wire.specs.Output.{put};
 ghost use Rattle.io.specs.Counts.{IsPrefixLen};

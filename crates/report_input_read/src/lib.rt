@@ -1,16 +1,18 @@
 // All of an input, read into a lent buffer: a read that fails is told from the end of the input.
+#![tactic(auto)]
+
 ghost use Rattle.std.specs.Prelude.{◌≡◌, ◌+◌, ◌<◌, ◌^◌, min, length};
 ghost use Rattle.report_input_read.specs.Input.{Stored, Within, turn_after};
 
 // How many bytes were stored, or that a read failed.
-#[derive(Drop)]
+#[derive(Clone, Copy)]
 pub enum Input {
     Bytes(usize),
     Failed,
 }
 
 // After a read: so many bytes are stored and the reading goes on, or it is over.
-#[derive(Drop)]
+#[derive(Clone, Copy)]
 enum Turn {
     On(usize),
     Over(Input),

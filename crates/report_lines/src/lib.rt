@@ -1,4 +1,6 @@
 // The line of each step of a session (document 01, "At the edges"), stored from the first byte of a lent line on.
+#![tactic(auto)]
+
 ghost use Rattle.std.specs.Prelude.{◌≡◌, ◌≤◌};
 ghost use Rattle.wire.specs.Output.{put, Wrote};
 ghost use Rattle.report_lines.specs.NextLines.{line_at, next_at};
@@ -9,7 +11,7 @@ use types::{Network, StreamPlace};
 use walk_read::{HandshakeItem, Layer, MessageItem, StepRead, Stop};
 
 // Lines of the report: how many bytes they take, and the place of the next step, if there is one.
-#[derive(Drop)]
+#[derive(Clone, Copy)]
 pub struct Next {
     pub len: usize,
     pub at: StreamPlace,

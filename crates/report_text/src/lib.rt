@@ -1,4 +1,6 @@
 // The text of each line of a session's report (document 01, "At the edges") from its numbers, stored from the first byte of a lent line on.
+#![tactic(auto)]
+
 ghost use Rattle.std.specs.Prelude.{◌≡◌, ◌+◌, ◌≤◌, length};
 ghost use Rattle.wire.specs.Output.{Wrote};
 ghost use Rattle.report_text.specs.Lines.{line_end, version_text, handshake_line, message_text, message_line, peers_line, stop_handshake, stop_frame, stop_body, stop_line, end_line};

@@ -1,5 +1,7 @@
 // Reads inputs of the program `session` from standard input, each behind its length (three bytes, little-endian), and prints what it prints of them, one
 // after the other; and last, twice, what it prints where its input can't be read.
+#![tactic(auto)]
+
 ghost use Rattle.std.specs.Prelude.{◌≤◌, ◌<◌, length};
 
 use libc::STDIN_FILENO;

@@ -1,4 +1,6 @@
 // The program `session` on the twenty bytes of document 01.
+#![tactic(auto)]
+
 use libc::STDIN_FILENO;
 
 fn main() {

@@ -1,4 +1,6 @@
 // The program `session` on an input of 65,537 bytes.
+#![tactic(auto)]
+
 use libc::STDIN_FILENO;
 
 fn main() {

@@ -1,11 +1,13 @@
 // The types that the codec's crates share, after types.rs: the network and its magic, the protocol version and its order, an
 // address, the proxy mode, and the two kinds of place with the one conversion between them.
+#![tactic(auto)]
+
 ghost use Rattle.std.specs.Prelude.{◌≡◌};
 ghost use Rattle.types.specs.Magic.{magic_of};
 ghost use Rattle.types.specs.Order.{below, eip37_min};
 ghost use Rattle.types.specs.Places.{located};
 
-#[derive(Drop)]
+#[derive(Clone, Copy)]
 pub enum Network {
     Mainnet,
     Testnet,
@@ -23,7 +25,7 @@ impl Network {
 }
 
 // Protocol version as three bytes: major.minor.patch.
-#[derive(Drop)]
+#[derive(Clone, Copy)]
 pub struct Version {
     pub major: u8,
     pub minor: u8,
@@ -63,7 +65,7 @@ impl Version {
 }
 
 // An address and its port. The address's bytes are one big-endian number, of IPv6 two: the high half, then the low half.
-#[derive(Drop)]
+#[derive(Clone, Copy)]
 pub enum Address {
     None,
     V4(u32, u16),
@@ -71,22 +73,22 @@ pub enum Address {
 }
 
 // What a handshake advertises: a full archival node, or one bootstrapped by NiPoPoW.
-#[derive(Drop)]
+#[derive(Clone, Copy)]
 pub enum ProxyMode {
     Full,
     Light,
 }
 
 // A place in the stream.
-#[derive(Drop)]
+#[derive(Clone, Copy)]
 pub struct StreamPlace(pub usize);
 
 // A place in a message body.
-#[derive(Drop)]
+#[derive(Clone, Copy)]
 pub struct BodyPlace(pub usize);
 
 // Where in the stream a place of a body is, or the refusal's number.
-#[derive(Drop)]
+#[derive(Clone, Copy)]
 pub enum Located {
     At(StreamPlace),
     Refused(u8),

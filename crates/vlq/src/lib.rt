@@ -1,4 +1,6 @@
 // VLQs and short strings, read from lent bytes by a cursor (transport/vlq.rs).
+#![tactic(auto)]
+
 ghost use Rattle.std.specs.Prelude.{◌≡◌};
 ghost use Rattle.wire.specs.Reader.{byte, part, part_of, map_answer};
 ghost use Rattle.vlq.specs.Vlq.{vlq, vlq_length};
@@ -11,24 +13,24 @@ use wire::{MAX_BODY_SIZE, Part};
 pub const MAX_SHORT_STRING: usize = 255;
 
 // A place in the bytes that are read. Each step hands the moved cursor back.
-#[derive(Drop)]
+#[derive(Clone, Copy)]
 pub struct Cursor {
     pub at: usize,
 }
 
-#[derive(Drop)]
+#[derive(Clone, Copy)]
 pub enum ByteRead {
     Value(u8, Cursor),
     Refused(u8),
 }
 
-#[derive(Drop)]
+#[derive(Clone, Copy)]
 pub enum VlqRead {
     Value(u64, Cursor),
     Refused(u8),
 }
 
-#[derive(Drop)]
+#[derive(Clone, Copy)]
 pub enum PartRead {
     Value(Part, Cursor),
     Refused(u8),

@@ -1,10 +1,12 @@
 // UTF-8 (RFC 3629), as `String::from_utf8` tests it.
+#![tactic(auto)]
+
 ghost use Rattle.std.specs.Prelude.{◌≡◌, ◌+◌, ◌≤◌, ◌<◌, length, get_or};
 ghost use Rattle.wire.specs.UpTo.{UpTo};
 ghost use Rattle.vlq_utf8.specs.Utf8.{lead_of, utf8};
 
 // What a lead byte says: how many followers it has, and the bounds of the first.
-#[derive(Drop)]
+#[derive(Clone, Copy)]
 pub enum Lead {
     Followers(u8, u8, u8),
     Bad,

@@ -1,5 +1,7 @@
 // VLQs and short strings, written into a lent output from a place (transport/vlq.rs).
 // Each writer asks its questions first and stores only once all are answered "yes".
+#![tactic(auto)]
+
 ghost use Rattle.std.specs.Prelude.{◌≡◌, [], ◌+◌, ◌≤◌, length};
 ghost use Rattle.wire.specs.Output.{written, output_after, Wrote};
 ghost use Rattle.vlq.specs.Vlq.{vlq_bytes};

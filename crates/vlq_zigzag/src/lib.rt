@@ -1,4 +1,6 @@
 // Zigzag (document 01; `vlq.rs`): 0, -1, 1, -2, 2 .. become 0, 1, 2, 3, 4 ..
+#![tactic(auto)]
+
 ghost use Rattle.std.specs.Prelude.{◌≡◌};
 ghost use Rattle.vlq_zigzag.specs.Zigzag.{zigzag_encode, zigzag_decode};
 

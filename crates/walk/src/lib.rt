@@ -1,1 +1,3 @@
 // The session walk.
+#![tactic(auto)]
+

@@ -1,5 +1,7 @@
 // What is reached by index from an item of the stream, with its places in the stream: an entry, an id or a payload of a message, given the stream and
 // where the message's body stands in it.
+#![tactic(auto)]
+
 ghost use Rattle.std.specs.Prelude.{◌≡◌};
 ghost use Rattle.walk_by_index.specs.InStream.{is_inside, in_stream, stream_entry, entry_to_stream, payload_to_stream, entry_in_stream, id_in_stream, payload_in_stream};
 ghost use Rattle.walk_by_index.specs.Answers.{stream_entry_answer, stream_id_answer, stream_payload_answer};
@@ -12,14 +14,14 @@ use messages_response_read::{Payload, PayloadByIndexRead};
 use types::{Address, BodyPlace, Located, StreamPlace, Version};
 
 // The features of an entry: how many there are, and the place of the first.
-#[derive(Drop)]
+#[derive(Clone, Copy)]
 pub struct StreamFeatures {
     pub count: u8,
     pub start: StreamPlace,
 }
 
 // An entry of a Peers message.
-#[derive(Drop)]
+#[derive(Clone, Copy)]
 pub struct StreamEntry {
     pub agent: StreamPart,
     pub version: Version,
@@ -29,28 +31,28 @@ pub struct StreamEntry {
 }
 
 // A payload: the place of its id, and where its bytes stand.
-#[derive(Drop)]
+#[derive(Clone, Copy)]
 pub struct StreamPayload {
     pub id: StreamPlace,
     pub bytes: StreamPart,
 }
 
 // An entry and the place where it ends, or the refusal's number.
-#[derive(Drop)]
+#[derive(Clone, Copy)]
 pub enum StreamEntryRead {
     Value(StreamEntry, StreamPlace),
     Refused(u8),
 }
 
 // The place of an id.
-#[derive(Drop)]
+#[derive(Clone, Copy)]
 pub enum StreamIdRead {
     Value(StreamPlace),
     Refused(u8),
 }
 
 // A payload and the place where it ends.
-#[derive(Drop)]
+#[derive(Clone, Copy)]
 pub enum StreamPayloadRead {
     Value(StreamPayload, StreamPlace),
     Refused(u8),

@@ -1,4 +1,6 @@
 // The step of the session walk: what stands at a place of a stream (document 01, "The session walk").
+#![tactic(auto)]
+
 ghost use Rattle.std.specs.Prelude.{◌≡◌, ◌+◌, ◌<◌, ◌≤◌, length, take, drop};
 ghost use Rattle.messages.specs.Message.{message};
 ghost use Rattle.walk.specs.Session.{handshake_at, message_at, session_step};
@@ -11,7 +13,7 @@ use messages_read::{Message, MessageRead};
 use types::{Network, StreamPlace};
 
 // Where a refusal was made.
-#[derive(Drop)]
+#[derive(Clone, Copy)]
 pub enum Layer {
     Handshake,
     Frame,
@@ -19,7 +21,7 @@ pub enum Layer {
 }
 
 // The handshake of a session, with the verdict of validate_peer.
-#[derive(Drop)]
+#[derive(Clone, Copy)]
 pub struct HandshakeItem {
     pub start: StreamPlace,
     pub end: StreamPlace,
@@ -29,7 +31,7 @@ pub struct HandshakeItem {
 
 // A frame of a session, opened as a message. Its places are places in the frame's body; through the body's start they become places in the stream,
 // one by BodyPlace::in_stream, and what is reached by index by the functions of walk_by_index.
-#[derive(Drop)]
+#[derive(Clone, Copy)]
 pub struct MessageItem {
     pub start: StreamPlace,
     pub end: StreamPlace,
@@ -39,7 +41,7 @@ pub struct MessageItem {
 }
 
 // A refusal: its layer and number, and where the item starts.
-#[derive(Drop)]
+#[derive(Clone, Copy)]
 pub struct Stop {
     pub layer: Layer,
     pub number: u8,
@@ -47,7 +49,7 @@ pub struct Stop {
 }
 
 // An item, the clean end, a stop, or 12: a place past the stream's length, which is no stop.
-#[derive(Drop)]
+#[derive(Clone, Copy)]
 pub enum StepRead {
     Handshake(HandshakeItem),
     Message(MessageItem),

@@ -1,5 +1,7 @@
 // What readers and writers of the wire format have in common: a part of the bytes, what a writer says, what is said of a
 // value before it has a place, and a comparison.
+#![tactic(auto)]
+
 ghost use Rattle.std.specs.Prelude.{◌≡◌, take, drop};
 ghost use Rattle.wire.specs.Bytes.{same_bytes};
 
@@ -7,21 +9,21 @@ ghost use Rattle.wire.specs.Bytes.{same_bytes};
 pub const MAX_BODY_SIZE: usize = 16_388_608;
 
 // Consecutive bytes: where they start, and how many they are.
-#[derive(Drop)]
+#[derive(Clone, Copy)]
 pub struct Part {
     pub start: usize,
     pub len: usize,
 }
 
 // What a writer says: the place after the bytes that it wrote, or the refusal number.
-#[derive(Drop)]
+#[derive(Clone, Copy)]
 pub enum Written {
     To(usize),
     Refused(u8),
 }
 
 // What is said of a value before it has a place: how many bytes it is written as, or the refusal number.
-#[derive(Drop)]
+#[derive(Clone, Copy)]
 pub enum Size {
     Bytes(usize),
     Refused(u8),

@@ -1,5 +1,7 @@
 // Numbers of 2, 4 and 8 bytes, the highest byte first: read from lent bytes, and given as bytes by value.
 // Lend the very bytes, as `&s[at..at + 4]`: their count is then known where this is compiled, and nothing is tested.
+#![tactic(auto)]
+
 ghost use Rattle.std.specs.Prelude.{◌≡◌, ◌^◌, ◌≤◌, ◌<◌, take};
 ghost use Rattle.wire.specs.Bytes.{big_endian, big_endian_bytes};
 

@@ -1,4 +1,6 @@
 // What is asked of the output before a writer stores (document 01, "Questions", Writers): the place in it, and the room from there on.
+#![tactic(auto)]
+
 ghost use Rattle.std.specs.Prelude.{◌≡◌, [], ◌+◌, leb};
 ghost use Rattle.wire_output.specs.Asked.{written_for, output_asked};
 

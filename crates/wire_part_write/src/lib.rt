@@ -1,5 +1,7 @@
 // A part or a byte, written into a lent output from a place.
 // Each writer asks its questions first and stores only once all are answered "yes".
+#![tactic(auto)]
+
 ghost use Rattle.std.specs.Prelude.{◌≡◌, [], ◌∷◌, ◌+◌, ◌≤◌, ◌<◌, length, take, drop};
 ghost use Rattle.wire.specs.Output.{written, output_after, Wrote};
 

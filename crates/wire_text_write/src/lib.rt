@@ -1,4 +1,6 @@
 // A number in decimal, written into a lent output from a place. Other text is bytes, and `wire_part_write` writes it.
+#![tactic(auto)]
+
 ghost use Rattle.std.specs.Prelude.{◌≡◌, [], ◌≤◌, length};
 ghost use Rattle.wire.specs.Output.{written, output_after};
 ghost use Rattle.wire_text_write.specs.Text.{decimal};

@@ -1,0 +1,13 @@
+-- The loop's invariant: the first i words are the block's. Assumes nothing.
+use Rattle.std.proofs.Common.{◌≡◌, ℕ, ◌+◌, ◌-◌, ◌*◌, ◌<◌, ◌≤◌, List, take, drop, set, sym, refl, ap, ◌∙◌, arith}
+use lib.Seq.{take-length}
+use Rattle.blake2b.specs.Blake2b.{word, words}
+use Rattle.blake2b_hash.proofs.Blocks.{length-words, words-at}
+use Rattle.blake2b.specs.FilledLaws.{filled, filled_more, filled-all}
+use Rattle.blake2b_hash.proofs.bytes.load.Given as goal
+
+abbrev pub invariant-loop-i : goal.invariant-loop-i
+invariant-loop-i l = (l.i ≤ 16) × (l.m ≡ filled 16 (words 16 (drop l.at l.s)) l.i)
+
+abbrev pub decreases-loop-i : goal.decreases-loop-i
+decreases-loop-i l = 16 - l.i

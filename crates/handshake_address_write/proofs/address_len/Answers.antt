@@ -1,0 +1,24 @@
+-- `handshake_address_write::address_len` meets its contract: one arm for each kind of address.
+use native.Mathlib.Omega.{arith}
+use mathlib.Core.Path.{refl}
+use borrow.Author.Rules.{rules}
+use Rattle.vlq.specs.VlqLaws.{vlq_ten}
+use Rattle.handshake.specs.Value.{address_bytes}
+use Rattle.handshake_address_write.specs.AddressLaws.{length-v4, length-v6}
+use Rattle.handshake_address_write.proofs.address_len.Goals as goal
+
+pub overflow_add-result : goal.overflow_add-result
+overflow_add-result c = omega (arith, c.vlq_len.ensures, vlq_ten c.in-V4.port (omega arith))
+
+pub overflow_add-result-in-V6 : goal.overflow_add-result-in-V6
+overflow_add-result-in-V6 c = omega (arith, c.vlq_len-in-V6.ensures, vlq_ten c.in-V6.port (omega arith))
+
+pub returns-in-None : goal.returns-in-None
+unfolding address_bytes
+returns-in-None c = rw c.in-None.is (refl, omega arith)
+
+pub returns-in-V4 : goal.returns-in-V4
+returns-in-V4 c = rw c.in-V4.is (omega (arith, c.vlq_len.ensures, length-v4 c.in-V4.ip c.in-V4.port), omega (arith, c.vlq_len.ensures, vlq_ten c.in-V4.port (omega arith)))
+
+pub returns-in-V6 : goal.returns-in-V6
+returns-in-V6 c = rw c.in-V6.is (omega (arith, c.vlq_len-in-V6.ensures, length-v6 c.in-V6.high c.in-V6.low c.in-V6.port), omega (arith, c.vlq_len-in-V6.ensures, vlq_ten c.in-V6.port (omega arith)))

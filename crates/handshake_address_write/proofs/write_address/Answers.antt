@@ -1,0 +1,16 @@
+-- `handshake_address_write::write_address` meets its contract: the room was asked by the address's length, and the address was stored once there was some.
+use mathlib.Core.List.{[]}
+use mathlib.Core.Path.{refl}
+use borrow.Author.Rules.{rules}
+use Rattle.wire_output.specs.CheckedLaws.{accepted, stored, kept}
+use Rattle.handshake.specs.Value.{address_bytes}
+use Rattle.handshake_address_write.proofs.write_address.Goals as goal
+
+pub put_address-requires : goal.put_address-requires
+put_address-requires c = (accepted [] [] c.args.out.now c.args.at (address_bytes c.args.address) (rw c.address_len.ensures.0 at c.ask_room-answer.ensures) c.in-To.is).room
+
+pub returns-in-To : goal.returns-in-To
+returns-in-To c = stored [] [] _ _ _ (rw c.address_len.ensures.0 at c.ask_room-answer.ensures) c.in-To.is (record { end = refl; bytes = c.put_address.ensures })
+
+pub returns-in_default : goal.returns-in_default
+returns-in_default c = kept [] [] _ _ _ (rw c.address_len.ensures.0 at c.ask_room-answer.ensures) c.in_default.is

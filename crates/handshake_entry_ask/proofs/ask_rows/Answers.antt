@@ -1,0 +1,23 @@
+-- `handshake_entry_ask::ask_rows` meets its contract. The loop has asked the rows before k.
+use Prim.Native.Nat.{◌-◌, ◌/◌, ◌≤◌}
+use native.Mathlib.Omega.{arith}
+use mathlib.Core.Path.{◌≡◌, refl, ap, ◌∙◌}
+use lib.ListN.{length}
+use borrow.Author.Rules.{rules}
+use Rattle.handshake.specs.Tables.{tables}
+use Rattle.handshake_entry_rows.specs.ValueLaws.{row-there}
+use Rattle.handshake_entry_ask.specs.Asked.{row_size}
+use Rattle.handshake_entry_ask.specs.AskedLaws.{SizeSoFar, size-start, size-turn, size-end}
+use Rattle.handshake_entry_ask.proofs.ask_rows.Goals as goal
+
+pub loop-k-init : goal.loop-k-init
+loop-k-init c = (refl, omega arith, size-start _)
+
+pub loop-k-preserved : goal.loop-k-preserved
+loop-k-preserved c =
+    let row = c.entry_at.ensures ∙ row-there c.args.entries.now c.loop-k.k (omega arith) in
+    let own = c.ask_row.ensures ∙ ap (row_size c.args.features.now c.args.buffer.now) row in
+    (c.loop-k.invariant.0, omega arith, size-turn c.loop-k.invariant.2 own c.add_row-size.ensures)
+
+pub returns : goal.returns
+returns c = size-end c.loop-k.invariant.2 (omega arith)

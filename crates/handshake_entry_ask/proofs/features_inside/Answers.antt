@@ -1,0 +1,26 @@
+-- `handshake_entry_ask::features_inside` meets its contract. The loop has come to row k; the bodies of the rows before it are inside.
+use Prim.Native.Nat.{◌+◌, ◌-◌}
+use native.Mathlib.Omega.{arith}
+use mathlib.Core.Path.{sym, ap, ◌∙◌}
+use borrow.Author.Rules.{rules}
+use borrow.Author.Tests.{not-true, not-false}
+use Rattle.wire.specs.Bytes.{every}
+use Rattle.handshake.specs.Tables.{feature_row, inside, feature_inside}
+use Rattle.handshake.specs.RowsLaws.{rows-from, Passed, passed_start, passed-next, passed-not, passed-end}
+use Rattle.handshake_entry_ask.proofs.features_inside.Goals as goal
+
+pub loop-k-init : goal.loop-k-init
+loop-k-init c = passed_start _ _ _
+
+pub returns-then-not-is_inside : goal.returns-then-not-is_inside
+unfolding feature_inside inside
+returns-then-not-is_inside c =
+    passed-not c.loop-k.invariant c.loop-k-test.true (sym c.is_inside.ensures ∙ not-true _ c.if-not-is_inside.true)
+    ∙ ap (every _) (rows-from _ _ _)
+
+pub loop-k-preserved : goal.loop-k-preserved
+unfolding feature_inside inside
+loop-k-preserved c = passed-next c.loop-k.invariant c.loop-k-test.true (sym c.is_inside.ensures ∙ not-false _ c.if-not-is_inside.false)
+
+pub returns : goal.returns
+returns c = passed-end c.loop-k.invariant c.loop-k-test.false ∙ ap (every _) (rows-from _ _ _)

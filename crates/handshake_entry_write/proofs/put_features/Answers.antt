@@ -1,0 +1,28 @@
+-- `handshake_entry_write::put_features` meets its contract. The loop has stored the rows before k; the rest is still to be stored.
+use Prim.Native.Nat.{◌+◌, ◌-◌, ◌^◌, ◌<◌}
+use native.Mathlib.Omega.{arith}
+use Rattle.handshake.specs.Value.{feature_bytes}
+use Rattle.handshake.specs.Tables.{feature_row, feature_from_row, feature_numbers}
+use Rattle.handshake.specs.RowsLaws.{rows-from}
+use Rattle.handshake.specs.PuttingLaws.{Putting, putting_start, putting_passed, putting_room, putting_turn, putting_end}
+use Rattle.handshake_entry_rows.specs.ValueLaws.{part-inside}
+use Rattle.handshake_entry_write.proofs.put_features.Goals as goal
+
+pub loop-k-init : goal.loop-k-init
+loop-k-init c =
+    let e = rows-from (feature_row c.args.features.now) c.args.e.first c.args.e.count in
+    (omega arith, putting_start _ _ _ _ _ _ _ (rw e c.requires.1.0.0) (rw e c.requires.1.1))
+
+pub put_feature-o-requires : goal.put_feature-o-requires
+put_feature-o-requires c =
+    let within = part-inside c.args.buffer.now c.args.features.now c.args.e.first c.args.e.count c.loop-k.k c.requires.1.0.1 (omega arith) in
+    ((putting_passed c.loop-k.invariant.1 (omega arith), within), putting_room c.loop-k.invariant.1 (omega arith))
+
+pub loop-k-preserved : goal.loop-k-preserved
+loop-k-preserved c = (c.loop-k.invariant.0, putting_turn c.loop-k.invariant.1 (omega arith) c.put_feature-o.ensures)
+
+pub shape_of-out : goal.shape_of-out
+shape_of-out c = c.loop-k.invariant.1.writing.size
+
+pub returns : goal.returns
+returns c = rw (← rows-from (feature_row c.args.features.now) c.args.e.first c.args.e.count) (putting_end c.loop-k.invariant.1 (omega arith))

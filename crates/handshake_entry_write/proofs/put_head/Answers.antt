@@ -1,0 +1,36 @@
+-- `handshake_entry_write::put_head` meets its contract: agent, version and name were stored one after the other.
+use native.Mathlib.Omega.{arith}
+use mathlib.Core.Path.{◌∙◌}
+use borrow.Author.Rules.{rules}
+use Rattle.wire.specs.OutputLaws.{wrote_then, wrote_length}
+use Rattle.handshake_entry_ask.specs.Asked.{head_bytes}
+use Rattle.handshake_entry_ask.specs.LengthLaws.{length-head}
+use Rattle.handshake_entry_ask.specs.RowLaws.{short_lengths}
+use Rattle.handshake_entry_write.proofs.put_head.Goals as goal
+
+pub put_string-a-requires : goal.put_string-a-requires
+put_string-a-requires c =
+    let short = short_lengths c.args.buffer.now c.args.e c.requires.0.1 in
+    let head = length-head c.args.buffer.now c.args.e in
+    rw c.part_of.ensures (short.0, omega (arith, head))
+
+pub put_version-b-requires : goal.put_version-b-requires
+put_version-b-requires c =
+    let short = short_lengths c.args.buffer.now c.args.e c.requires.0.1 in
+    let head = length-head c.args.buffer.now c.args.e in
+    let w = rw c.part_of.ensures at c.put_string-a.ensures in
+    (c.requires.0.0, omega (arith, head, w.end, wrote_length w))
+
+pub put_string-requires : goal.put_string-requires
+put_string-requires c =
+    let short = short_lengths c.args.buffer.now c.args.e c.requires.0.1 in
+    let head = length-head c.args.buffer.now c.args.e in
+    let w = rw c.part_of.ensures at c.put_string-a.ensures in
+    rw c.part_of-2.ensures (short.1, omega (arith, head, w.end, wrote_length w, c.put_version-b.ensures.end, wrote_length c.put_version-b.ensures))
+
+pub shape_of-out : goal.shape_of-out
+shape_of-out c = wrote_length c.put_string.ensures ∙ wrote_length c.put_version-b.ensures ∙ wrote_length c.put_string-a.ensures
+
+pub returns : goal.returns
+unfolding head_bytes
+returns c = wrote_then (rw c.part_of.ensures at c.put_string-a.ensures) (wrote_then c.put_version-b.ensures (rw c.part_of-2.ensures at c.put_string.ensures))

@@ -1,0 +1,36 @@
+-- `handshake_entry_write::put_rows` meets its contract: the rows before k were stored.
+use Prim.Native.Nat.{◌-◌, ◌/◌}
+use native.Mathlib.Omega.{arith}
+use mathlib.Core.Path.{◌∙◌}
+use lib.ListN.{length}
+use borrow.Author.Rules.{rules}
+use Rattle.handshake.specs.Value.{entry_bytes}
+use Rattle.handshake.specs.Tables.{tables, entry_row, entry_from_row, entries_of, entry_inside}
+use Rattle.handshake.specs.PuttingLaws.{Putting, putting_start, putting_room, putting_turn, putting_end}
+use Rattle.handshake_entry_rows.specs.ValueLaws.{row-there, own-entry}
+use Rattle.handshake_entry_write.specs.RowsLaws.{each-row_ready}
+use Rattle.handshake_entry_write.proofs.put_rows.Goals as goal
+
+pub loop-k-init : goal.loop-k-init
+unfolding entries_of
+loop-k-init c = putting_start _ _ _ _ _ _ _ c.requires.0.inside c.requires.1
+
+pub put_entry-o-requires : goal.put_entry-o-requires
+put_entry-o-requires c =
+    let l = tables c.args.entries.now c.args.features.now c.args.buffer.now in
+    let row = c.entry_at-e.ensures ∙ row-there l.entries c.loop-k.k (omega arith) in
+    rw row
+    (each-row_ready l c.loop-k.k (omega arith) c.requires.0, rw (own-entry l (entry_row l.entries c.loop-k.k)) (putting_room c.loop-k.invariant (omega arith)))
+
+pub loop-k-preserved : goal.loop-k-preserved
+loop-k-preserved c =
+    let l = tables c.args.entries.now c.args.features.now c.args.buffer.now in
+    let row = c.entry_at-e.ensures ∙ row-there l.entries c.loop-k.k (omega arith) in
+    putting_turn c.loop-k.invariant (omega arith) (rw (row, own-entry l (entry_row l.entries c.loop-k.k)) at c.put_entry-o.ensures)
+
+pub shape_of-out : goal.shape_of-out
+shape_of-out c = c.loop-k.invariant.writing.size
+
+pub returns : goal.returns
+unfolding entries_of
+returns c = putting_end c.loop-k.invariant (omega arith)

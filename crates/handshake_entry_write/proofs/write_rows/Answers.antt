@@ -1,0 +1,25 @@
+-- `handshake_entry_write::write_rows` meets its contract: every question was asked first, and the entries were stored once all held.
+use borrow.Author.Rules.{rules}
+use Rattle.wire.specs.OutputLaws.{wrote_length}
+use Rattle.handshake.specs.Tables.{tables}
+use Rattle.handshake_entry_write.specs.RowsLaws.{rows-accepted, rows_stored, rows-kept}
+use Rattle.handshake_entry_write.proofs.write_rows.Goals as goal
+
+pub put_rows-requires : goal.put_rows-requires
+put_rows-requires c =
+    let l = tables c.args.entries.now c.args.features.now c.args.buffer.now in
+    rows-accepted l c.args.before c.args.out.now c.args.at c.ask_entries-size.ensures c.ask_output-written.ensures c.in-To.is
+
+pub shape_of-out : goal.shape_of-out
+shape_of-out c = wrote_length c.put_rows.ensures
+
+pub returns-in-To : goal.returns-in-To
+returns-in-To c =
+    let l = tables c.args.entries.now c.args.features.now c.args.buffer.now in
+    rows_stored l c.args.before c.args.out.now c.args.at c.ask_entries-size.ensures c.ask_output-written.ensures c.in-To.is
+    c.put_rows.ensures
+
+pub returns-in_default : goal.returns-in_default
+returns-in_default c =
+    let l = tables c.args.entries.now c.args.features.now c.args.buffer.now in
+    rows-kept l c.args.before c.args.out.now c.args.at c.ask_entries-size.ensures c.ask_output-written.ensures c.in_default.is

@@ -1,0 +1,12 @@
+-- `haspeljo::handshakes::haspeljo_parse` meets its contract: number and array are those of what the reader answered.
+use mathlib.Core.Path.{refl}
+use Rattle.handshake_read.specs.Answers.{handshake_answer}
+use Rattle.haspeljo.proofs.ExportLaws.{reader-got, reader-refused}
+use borrow.Author.Rules.{rules}
+use Rattle.haspeljo.proofs.handshakes.haspeljo_parse.Goals as goal
+
+pub returns-in-Value : goal.returns-in-Value
+returns-in-Value c = reader-got handshake_answer _ _ c.parse.ensures c.in-Value.is refl c.entry_numbers.ensures
+
+pub returns-in-Refused : goal.returns-in-Refused
+returns-in-Refused c = reader-refused handshake_answer _ _ c.parse.ensures c.in-Refused.is refl

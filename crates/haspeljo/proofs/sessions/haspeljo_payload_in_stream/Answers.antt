@@ -1,0 +1,12 @@
+-- `haspeljo::sessions::haspeljo_payload_in_stream` meets its contract: number and array are those of what the reader answered.
+use mathlib.Core.Path.{refl}
+use Rattle.walk_by_index.specs.Answers.{stream_payload_answer}
+use Rattle.haspeljo.proofs.ExportLaws.{reader-got, reader-refused}
+use borrow.Author.Rules.{rules}
+use Rattle.haspeljo.proofs.sessions.haspeljo_payload_in_stream.Goals as goal
+
+pub returns-in-Value : goal.returns-in-Value
+returns-in-Value c = reader-got stream_payload_answer _ _ c.payload_in_stream.ensures c.in-Value.is refl refl
+
+pub returns-in-Refused : goal.returns-in-Refused
+returns-in-Refused c = reader-refused stream_payload_answer _ _ c.payload_in_stream.ensures c.in-Refused.is refl

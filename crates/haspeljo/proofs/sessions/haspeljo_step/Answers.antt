@@ -1,0 +1,8 @@
+-- `haspeljo::sessions::haspeljo_step` meets its contract: number and array are those of the step.
+use borrow.Author.Rules.{rules}
+use Rattle.haspeljo.proofs.sessions.haspeljo_step.Goals as goal
+
+pub returns : goal.returns
+returns c =
+    let e = rw c.network_of.ensures at c.step-step.ensures in
+    rw (← e) c.step_result.ensures

@@ -1,0 +1,7 @@
+-- `haspeljo::writers::haspeljo_write_handshake` meets its contract: what the writer said is returned, and the output is as it left it.
+use borrow.Author.Rules.{rules}
+use Rattle.haspeljo.proofs.ExportLaws.{writer_leaves}
+use Rattle.haspeljo.proofs.writers.haspeljo_write_handshake.Goals as goal
+
+pub returns : goal.returns
+returns c = writer_leaves _ _ (c.write_handshake-w.ensures.0, c.write_handshake-w.ensures.1.0) c.written_result.ensures

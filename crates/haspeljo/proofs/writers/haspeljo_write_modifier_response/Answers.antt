@@ -1,0 +1,7 @@
+-- `haspeljo::writers::haspeljo_write_modifier_response` meets its contract: what the writer said is returned, and the output is as it left it.
+use borrow.Author.Rules.{rules}
+use Rattle.haspeljo.proofs.ExportLaws.{writer_leaves}
+use Rattle.haspeljo.proofs.writers.haspeljo_write_modifier_response.Goals as goal
+
+pub returns : goal.returns
+returns c = writer_leaves _ _ (rw c.network_of.ensures at c.write_modifier_response-w.ensures) c.written_result.ensures

@@ -1,0 +1,12 @@
+-- `haspeljo::writers::written_result` meets its contract: by the two cases of what was said.
+use borrow.Author.Rules.{rules}
+use Rattle.haspeljo.specs.Results.{written_number, end_after}
+use Rattle.haspeljo.proofs.writers.written_result.Goals as goal
+
+pub returns-in-To : goal.returns-in-To
+unfolding written_number end_after
+returns-in-To c = (rw c.in-To.is, rw c.in-To.is)
+
+pub returns-in-Refused : goal.returns-in-Refused
+unfolding written_number end_after
+returns-in-Refused c = (rw c.in-Refused.is, rw c.in-Refused.is)

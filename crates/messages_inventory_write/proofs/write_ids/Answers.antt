@@ -1,0 +1,15 @@
+-- `messages_inventory_write::write_ids` meets its contract: the questions were answered by sizes, and the frame was stored once all held.
+use lib.ListN.{length}
+use borrow.Author.Rules.{rules}
+use Rattle.wire.specs.StandingLaws.{after-put, after-refused}
+use Rattle.messages_inventory_write.specs.InventoryWriteLaws.{asked-ids}
+use Rattle.messages_inventory_write.proofs.write_ids.Goals as goal
+
+pub put_ids-requires : goal.put_ids-requires
+put_ids-requires c = asked-ids c.args.modifier-type c.args.ids.now c.args.buffer.now (length c.args.out.now) c.args.at c.ask_ids-answer.ensures c.in-To.is
+
+pub returns-in-To : goal.returns-in-To
+returns-in-To c = (c.ask_ids-answer.ensures, after-put _ _ _ c.in-To.is c.put_ids.ensures)
+
+pub returns-in_default : goal.returns-in_default
+returns-in_default c = (c.ask_ids-answer.ensures, after-refused _ _ c.in_default.is)

@@ -1,0 +1,17 @@
+-- `messages_peers_read::skip_entries` meets its contract. The loop's invariant and what follows from it stand in `LoopLaws` of wire.
+use Prim.Native.Nat.{◌-◌}
+use mathlib.Core.Path.{refl, sym, ap, ◌∙◌}
+use native.Mathlib.Omega.{arith}
+use borrow.Author.Rules.{rules}
+use Rattle.wire.specs.ReaderLaws.{map-got, map-refused}
+use Rattle.handshake.specs.Entry.{entry}
+use Rattle.handshake_read.specs.Answers.{peer_spec_of, entry_answer}
+use Rattle.messages_peers_read.specs.Answers.{entries_ended}
+use Rattle.wire.specs.LoopLaws.{ListSoFar, list-start, list_again, list-refused, list-end}
+use Rattle.messages_peers_read.proofs.skip_entries.Given as goal
+
+abbrev pub invariant-loop-i : goal.invariant-loop-i
+invariant-loop-i l = ListSoFar (λ before. entry) entries_ended l.body l.n l.initial.d.at tt l.d.at l.i
+
+abbrev pub decreases-loop-i : goal.decreases-loop-i
+decreases-loop-i l = l.n - l.i

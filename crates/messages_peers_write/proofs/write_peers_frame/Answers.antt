@@ -1,0 +1,26 @@
+-- `messages_peers_write::write_peers_frame` meets its contract: once the entries were accepted, the count was stored before them and the frame closed around both.
+use native.Mathlib.Omega.{arith}
+use mathlib.Core.Path.{sym, ◌∙◌}
+use borrow.Author.Rules.{rules}
+use Rattle.wire.specs.StandingLaws.{after-refused}
+use Rattle.handshake.specs.Tables.{tables}
+use Rattle.messages_peers_write.specs.PeersLaws.{body_end, frame_stored}
+use Rattle.messages_peers_write.proofs.write_peers_frame.Goals as goal
+
+pub overflow_sub-end : goal.overflow_sub-end
+overflow_sub-end c =
+    let l = tables c.args.entries.now c.args.features.now c.args.buffer.now in
+    let w = rw c.vlq_len-before.ensures at c.write_rows-answer.ensures in
+    omega (arith, body_end c.args.network l c.args.out.now c.args.at w.0 w.1 c.in-To.is)
+
+pub returns-in-To : goal.returns-in-To
+returns-in-To c =
+    let l = tables c.args.entries.now c.args.features.now c.args.buffer.now in
+    let w = rw c.vlq_len-before.ensures at c.write_rows-answer.ensures in
+    (sym c.in-To.is ∙ w.0, frame_stored c.args.network l c.args.out.now c.args.at w.0 w.1 c.in-To.is c.write_vlq.ensures.0 c.write_vlq.ensures.1 c.close_frame.ensures.0 c.close_frame.ensures.1)
+
+pub returns-in_default : goal.returns-in_default
+returns-in_default c =
+    let l = tables c.args.entries.now c.args.features.now c.args.buffer.now in
+    let w = rw c.vlq_len-before.ensures at c.write_rows-answer.ensures in
+    (w.0, w.1 ∙ sym (after-refused _ _ c.in_default.is) ∙ after-refused _ _ c.in_default.is)

@@ -1,0 +1,20 @@
+-- `messages_response_read::skip_payloads` meets its contract. The loop's invariant and what follows from it stand in `LoopLaws` of wire and
+-- `PayloadsLoop`.
+use Prim.Native.Nat.{ℕ, ◌-◌}
+use mathlib.Core.Path.{sym, ap, ◌∙◌}
+use native.Mathlib.Omega.{arith}
+use lib.ListN.{length}
+use Rattle.wire.specs.ReaderLaws.{map-got, map-refused}
+use Rattle.messages.specs.Message.{payload, total}
+use Rattle.messages_response_read.specs.declared.Payload.{Payload}
+use Rattle.messages_response_read.specs.Answers.{payload_sum, payload_answer}
+use Rattle.wire.specs.LoopLaws.{ListSoFar, list-start, list-end}
+use Rattle.messages_response_read.proofs.PayloadsLoop.{payloads_again, payloads-refused}
+use borrow.Author.Rules.{rules}
+use Rattle.messages_response_read.proofs.skip_payloads.Given as goal
+
+abbrev pub invariant-loop-i : goal.invariant-loop-i
+invariant-loop-i l = ListSoFar (payload (length l.body)) total l.body l.n l.initial.at.0 l.total l.at.0 l.i
+
+abbrev pub decreases-loop-i : goal.decreases-loop-i
+decreases-loop-i l = l.n - l.i

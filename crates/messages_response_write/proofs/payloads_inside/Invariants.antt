@@ -1,0 +1,18 @@
+-- `messages_response_write::payloads_inside` meets its contract: the rows before k are inside the buffer.
+use Prim.Native.Nat.{◌+◌, ◌-◌, ◌/◌}
+use native.Mathlib.Omega.{arith}
+use mathlib.Core.Bool.{◌&&◌}
+use mathlib.Core.Path.{sym, ◌∙◌}
+use lib.Dec.{leb}
+use lib.ListN.{length}
+use borrow.Author.Rules.{rules}
+use borrow.Author.Tests.{not-true, not-false}
+use Rattle.handshake.specs.RowsLaws.{Passed, passed_start, passed-next, passed-not, passed-end}
+use Rattle.messages.specs.Writes.{payload_row}
+use Rattle.messages_response_write.proofs.payloads_inside.Given as goal
+
+abbrev pub invariant-loop-k : goal.invariant-loop-k
+invariant-loop-k l = Passed (λ row. leb (row.id + 32) l.len && leb (row.at + row.len) l.len) (payload_row l.payloads) (length l.payloads / 3) l.k
+
+abbrev pub decreases-loop-k : goal.decreases-loop-k
+decreases-loop-k l = length l.payloads / 3 - l.k

@@ -1,0 +1,34 @@
+-- `messages_response_write::put_body` meets its contract: the type byte was stored, the count, and then the payloads.
+use Prim.Native.Nat.{◌/◌}
+use native.Mathlib.Omega.{arith}
+use mathlib.Core.Path.{◌∙◌}
+use lib.ListN.{length}
+use borrow.Author.Rules.{rules}
+use Rattle.wire.specs.OutputLaws.{wrote_then, wrote_length}
+use Rattle.messages_inventory_write.specs.InventoryWriteLaws.{count_stored}
+use Rattle.messages_response_write.specs.ResponseLaws.{response_parts, length_parts}
+use Rattle.messages_response_write.proofs.put_body.Goals as goal
+
+pub bounds-out-at : goal.bounds-out-at
+bounds-out-at c = omega (arith, length_parts c.args.modifier-type c.args.payloads.now c.args.buffer.now)
+
+pub overflow_add-at-3 : goal.overflow_add-at-3
+overflow_add-at-3 c = omega (arith, c.vlq_len.ensures, length_parts c.args.modifier-type c.args.payloads.now c.args.buffer.now)
+
+pub put_rows-requires : goal.put_rows-requires
+put_rows-requires c =
+    let parts = length_parts c.args.modifier-type c.args.payloads.now c.args.buffer.now in
+    let w = count_stored c.args.modifier-type (length c.args.payloads.now / 3) c.args.out.now c.args.at (omega (arith, parts, c.requires.1)) c.write_vlq.ensures.0 c.write_vlq.ensures.1 in
+    (c.requires.0, omega (arith, parts, c.requires.1, c.vlq_len.ensures, wrote_length w))
+
+pub shape_of-out : goal.shape_of-out
+shape_of-out c =
+    let parts = length_parts c.args.modifier-type c.args.payloads.now c.args.buffer.now in
+    let w = count_stored c.args.modifier-type (length c.args.payloads.now / 3) c.args.out.now c.args.at (omega (arith, parts, c.requires.1)) c.write_vlq.ensures.0 c.write_vlq.ensures.1 in
+    wrote_length c.put_rows.ensures ∙ wrote_length w
+
+pub returns : goal.returns
+returns c =
+    let parts = length_parts c.args.modifier-type c.args.payloads.now c.args.buffer.now in
+    let w = count_stored c.args.modifier-type (length c.args.payloads.now / 3) c.args.out.now c.args.at (omega (arith, parts, c.requires.1)) c.write_vlq.ensures.0 c.write_vlq.ensures.1 in
+    rw (response_parts c.args.modifier-type c.args.payloads.now c.args.buffer.now) (wrote_then w (rw c.vlq_len.ensures at c.put_rows.ensures))

@@ -1,0 +1,26 @@
+-- `messages_response_write::put_rows` meets its contract: the rows before k were stored.
+use Prim.Native.Nat.{◌-◌, ◌/◌}
+use native.Mathlib.Omega.{arith}
+use lib.ListN.{length}
+use borrow.Author.Rules.{rules}
+use Rattle.handshake.specs.PuttingLaws.{Putting, putting_start, putting_passed, putting_room, putting_turn, putting_end}
+use Rattle.messages.specs.Value.{payload_bytes}
+use Rattle.messages.specs.Writes.{payload_row, payload_from_row, payload_inside}
+use Rattle.messages_response_write.proofs.put_rows.Goals as goal
+
+pub loop-k-init : goal.loop-k-init
+loop-k-init c = putting_start _ _ _ _ _ _ _ c.requires.0 c.requires.1
+
+pub put_payload-o-requires : goal.put_payload-o-requires
+put_payload-o-requires c = rw c.payload_at.ensures (putting_passed c.loop-k.invariant (omega arith), putting_room c.loop-k.invariant (omega arith))
+
+pub loop-k-preserved : goal.loop-k-preserved
+loop-k-preserved c =
+    let w = rw c.payload_at.ensures at c.put_payload-o.ensures in
+    putting_turn c.loop-k.invariant (omega arith) w
+
+pub shape_of-out : goal.shape_of-out
+shape_of-out c = c.loop-k.invariant.writing.size
+
+pub returns : goal.returns
+returns c = putting_end c.loop-k.invariant (omega arith)

@@ -1,0 +1,15 @@
+-- `messages_response_write::put_rows` meets its contract: the rows before k were stored.
+use Prim.Native.Nat.{◌-◌, ◌/◌}
+use native.Mathlib.Omega.{arith}
+use lib.ListN.{length}
+use borrow.Author.Rules.{rules}
+use Rattle.handshake.specs.PuttingLaws.{Putting, putting_start, putting_passed, putting_room, putting_turn, putting_end}
+use Rattle.messages.specs.Value.{payload_bytes}
+use Rattle.messages.specs.Writes.{payload_row, payload_from_row, payload_inside}
+use Rattle.messages_response_write.proofs.put_rows.Given as goal
+
+abbrev pub invariant-loop-k : goal.invariant-loop-k
+invariant-loop-k l = Putting payload_bytes (payload_from_row l.buffer) (payload_row l.payloads) (payload_inside l.buffer) (length l.payloads / 3) l.initial.out l.at l.out l.o l.k
+
+abbrev pub decreases-loop-k : goal.decreases-loop-k
+decreases-loop-k l = length l.payloads / 3 - l.k

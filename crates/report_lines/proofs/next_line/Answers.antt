@@ -1,0 +1,26 @@
+-- `report_lines::next_line` meets its contract: the line of the step, and its end if it is an item.
+use Prim.Native.Nat.{ℕ}
+use native.Mathlib.Omega.{arith}
+use mathlib.Core.List.{List}
+use mathlib.Core.Path.{◌≡◌}
+use lib.ListN.{length}
+use Rattle.wire.specs.Output.{Wrote}
+use Rattle.report_lines.specs.NextLines.{next_of}
+use Rattle.report_lines.proofs.LastLaws.{last_step}
+use borrow.Author.Rules.{rules}
+use Rattle.report_lines.proofs.next_line.Goals as goal
+
+line-end : {out bs last : List ℕ} {e : ℕ} → Wrote out 0 bs e last → e ≡ length bs
+line-end w = omega (arith, w.end)
+
+pub returns-in-Handshake : goal.returns-in-Handshake
+unfolding next_of
+returns-in-Handshake c = (rw (line-end c.step_line-len.ensures.0, ← c.step-step.ensures, c.in-Handshake.is), (rw (← c.step-step.ensures) c.step_line-len.ensures.0.bytes, c.step_line-len.ensures.1))
+
+pub returns-in-Message : goal.returns-in-Message
+unfolding next_of
+returns-in-Message c = (rw (line-end c.step_line-len.ensures.0, ← c.step-step.ensures, c.in-Message.is), (rw (← c.step-step.ensures) c.step_line-len.ensures.0.bytes, c.step_line-len.ensures.1))
+
+pub returns-in_default : goal.returns-in_default
+unfolding next_of
+returns-in_default c = (rw (line-end c.step_line-len.ensures.0, ← c.step-step.ensures) (last_step c.step-step.result c.args.at (length c.args.s.now) c.in_default.keys3), (rw (← c.step-step.ensures) c.step_line-len.ensures.0.bytes, c.step_line-len.ensures.1))

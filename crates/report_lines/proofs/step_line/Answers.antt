@@ -1,0 +1,26 @@
+-- `report_lines::step_line` meets its contract: by the kind of step.
+use native.Mathlib.Omega.{arith}
+use Rattle.wire.specs.OutputLaws.{wrote_none}
+use Rattle.report_lines.specs.StepLines.{line_of}
+use borrow.Author.Rules.{rules}
+use Rattle.report_lines.proofs.step_line.Goals as goal
+
+pub returns-in-Handshake : goal.returns-in-Handshake
+unfolding line_of
+returns-in-Handshake c = rw c.in-Handshake.is c.handshake_line.ensures
+
+pub returns-in-Message : goal.returns-in-Message
+unfolding line_of
+returns-in-Message c = rw c.in-Message.is c.message_line.ensures
+
+pub returns-in-End : goal.returns-in-End
+unfolding line_of
+returns-in-End c = rw c.in-End.is c.put_end.ensures
+
+pub returns-in-Stop : goal.returns-in-Stop
+unfolding line_of
+returns-in-Stop c = rw c.in-Stop.is c.stop_line.ensures
+
+pub returns-in-Outside : goal.returns-in-Outside
+unfolding line_of
+returns-in-Outside c = (rw c.in-Outside.is (wrote_none c.args.line.now 0), omega arith)

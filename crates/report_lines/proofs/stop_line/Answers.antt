@@ -1,0 +1,16 @@
+-- `report_lines::stop_line` meets its contract: by the layer.
+use Rattle.report_lines.specs.StepLines.{stop_text}
+use borrow.Author.Rules.{rules}
+use Rattle.report_lines.proofs.stop_line.Goals as goal
+
+pub returns-in-Handshake : goal.returns-in-Handshake
+unfolding stop_text
+returns-in-Handshake c = rw c.in-Handshake.is (search rules)
+
+pub returns-in-Frame : goal.returns-in-Frame
+unfolding stop_text
+returns-in-Frame c = rw c.in-Frame.is (search rules)
+
+pub returns-in-Body : goal.returns-in-Body
+unfolding stop_text
+returns-in-Body c = rw c.in-Body.is (search rules)

@@ -1,0 +1,8 @@
+-- `report_text::newline` meets its contract: one byte was stored.
+use mathlib.Core.Path.{refl}
+use borrow.Author.Rules.{rules}
+use Rattle.wire.specs.OutputLaws.{wrote_byte}
+use Rattle.report_text.proofs.newline.Goals as goal
+
+pub returns : goal.returns
+returns c = (wrote_byte c.args.line.now c.args.at 10, refl)

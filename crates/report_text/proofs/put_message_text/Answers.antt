@@ -1,0 +1,10 @@
+-- `report_text::put_message_text` meets its contract: the places, then the code.
+use native.Mathlib.Omega.{arith}
+use Rattle.wire.specs.OutputLaws.{wrote_then}
+use Rattle.report_text.specs.Lines.{message_text}
+use borrow.Author.Rules.{rules}
+use Rattle.report_text.proofs.put_message_text.Goals as goal
+
+pub returns : goal.returns
+unfolding message_text
+returns c = (wrote_then c.span-a.ensures.0 c.field.ensures.0, omega (arith, c.span-a.ensures.1, c.field.ensures.1))

@@ -1,0 +1,16 @@
+-- `wire_part_write::write_byte` meets its contract: the questions were answered by sizes, and the byte was stored once there was room.
+use native.Mathlib.Omega.{arith}
+use mathlib.Core.List.{[], ◌∷◌}
+use borrow.Author.Rules.{rules}
+use Rattle.wire.specs.OutputLaws.{wrote_byte}
+use Rattle.wire_output.specs.CheckedLaws.{accepted, stored, kept}
+use Rattle.wire_part_write.proofs.write_byte.Goals as goal
+
+pub bounds-out-at : goal.bounds-out-at
+bounds-out-at c = omega (arith, (accepted [] [] c.args.out.now c.args.at (c.args.b ∷ []) c.ask_room-answer.ensures c.in-To.is).room)
+
+pub returns-in-To : goal.returns-in-To
+returns-in-To c = stored [] [] _ _ (c.args.b ∷ []) c.ask_room-answer.ensures c.in-To.is (wrote_byte c.args.out.now c.args.at c.args.b)
+
+pub returns-in_default : goal.returns-in_default
+returns-in_default c = kept [] [] _ _ (c.args.b ∷ []) c.ask_room-answer.ensures c.in_default.is

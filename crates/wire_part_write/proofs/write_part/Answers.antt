@@ -1,0 +1,14 @@
+-- `wire_part_write::write_part` meets its contract: the questions were answered by sizes, and the part was stored once there was room.
+use mathlib.Core.List.{[]}
+use borrow.Author.Rules.{rules}
+use Rattle.wire_output.specs.CheckedLaws.{accepted, stored, kept}
+use Rattle.wire_part_write.proofs.write_part.Goals as goal
+
+pub put_part-requires : goal.put_part-requires
+put_part-requires c = (accepted [] [] c.args.out.now c.args.at c.args.s.now c.ask_room-answer.ensures c.in-To.is).room
+
+pub returns-in-To : goal.returns-in-To
+returns-in-To c = stored [] [] _ _ _ c.ask_room-answer.ensures c.in-To.is c.put_part.ensures
+
+pub returns-in_default : goal.returns-in_default
+returns-in_default c = kept [] [] _ _ _ c.ask_room-answer.ensures c.in_default.is

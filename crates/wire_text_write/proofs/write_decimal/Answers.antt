@@ -1,0 +1,8 @@
+-- `wire_text_write::write_decimal` meets its contract: the part that was written is the number in decimal.
+use native.Mathlib.Omega.{arith}
+use borrow.Author.Rules.{rules}
+use Rattle.wire_text_write.specs.TextLaws.{decimal_spelled}
+use Rattle.wire_text_write.proofs.write_decimal.Goals as goal
+
+pub returns : goal.returns
+returns c = rw (decimal_spelled _ _ _ c.decimal-k.ensures.1.0 (omega arith) c.decimal-k.ensures.1.1) at c.write_part.ensures
