@@ -6,10 +6,11 @@ use Rattle.frame_write.specs.FrameWriteLaws.{asked-frame}
 use Rattle.frame_write.proofs.close_frame.Goals as goal
 
 pub put_frame-requires : goal.put_frame-requires
-put_frame-requires c = asked-frame (length c.args.out.now) c.args.at c.args.n c.ask_frame-answer.ensures c.in-To.is
+put_frame-requires c =
+    let e = asked-frame (length c.args.out.now) c.args.at c.args.n c.ask_frame-answer.ensures c.in-To.is in record { n_le_limit = e.0; n_in_bounds = e.1 }
 
 pub returns-in-To : goal.returns-in-To
-returns-in-To c = (c.ask_frame-answer.ensures, after-to c.in-To.is c.put_frame.ensures)
+returns-in-To c = record { value = c.ask_frame-answer.ensures; out_after = after-to c.in-To.is c.put_frame.ensures }
 
 pub returns-in_default : goal.returns-in_default
-returns-in_default c = (c.ask_frame-answer.ensures, after-refused _ _ c.in_default.is)
+returns-in_default c = record { value = c.ask_frame-answer.ensures; out_after = after-refused _ _ c.in_default.is }

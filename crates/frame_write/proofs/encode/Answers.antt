@@ -10,7 +10,9 @@ pub put_body-requires : goal.put_body-requires
 put_body-requires c = asked-frame (length c.args.out.now) c.args.at (length c.args.body.now) c.ask_frame-answer.ensures c.in-To.is
 
 pub returns-in-To : goal.returns-in-To
-returns-in-To c = (c.ask_frame-answer.ensures ∙ said-frame c.args.network c.args.code c.args.body.now c.args.out.now c.args.at, after-to c.in-To.is c.put_body.ensures)
+returns-in-To c =
+    record { value = c.ask_frame-answer.ensures ∙ said-frame c.args.network c.args.code c.args.body.now c.args.out.now c.args.at; out_after = after-to c.in-To.is c.put_body.ensures }
 
 pub returns-in_default : goal.returns-in_default
-returns-in_default c = (c.ask_frame-answer.ensures ∙ said-frame c.args.network c.args.code c.args.body.now c.args.out.now c.args.at, after-refused _ _ c.in_default.is)
+returns-in_default c =
+    record { value = c.ask_frame-answer.ensures ∙ said-frame c.args.network c.args.code c.args.body.now c.args.out.now c.args.at; out_after = after-refused _ _ c.in_default.is }

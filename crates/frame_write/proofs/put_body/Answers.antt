@@ -5,5 +5,5 @@ use Rattle.frame_write.proofs.put_body.Goals as goal
 
 pub returns : goal.returns
 returns c =
-    wrote_around c.args.network c.args.code c.args.out.now c.args.at c.args.body.now c.requires.1
-    (wrote_body c.args.out.now c.args.at c.args.body.now c.requires.1 c.write_part.ensures.0 c.write_part.ensures.1) c.put_frame.ensures
+    wrote_around c.args.network c.args.code c.args.out.now c.args.at c.args.body.now c.requires.body_in_bounds
+    (wrote_body c.args.out.now c.args.at c.args.body.now c.requires.body_in_bounds c.write_part.ensures.value c.write_part.ensures.out_after) c.put_frame.ensures

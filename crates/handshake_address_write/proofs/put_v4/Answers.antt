@@ -20,7 +20,7 @@ shape_of-out c = ap length (returns c) ∙ length-put _ _ _
 pub returns : goal.returns
 returns c =
     let four = length-big_endian_bytes 4 c.args.ip in
-    let w = wrote_checked [] [] _ (c.args.at + 2) (big_endian_bytes 4 c.args.ip) (rw c.big_endian_bytes_4-bytes.ensures at c.write_part.ensures.0) (rw c.big_endian_bytes_4-bytes.ensures at c.write_part.ensures.1) tt tt (simp length-set (omega (arith, four))) in
-    let v = wrote_checked [] [] _ (c.args.at + 6) (vlq_bytes c.args.port) c.write_vlq.ensures.0 c.write_vlq.ensures.1 tt tt (omega (arith, simp length-set at (wrote_length w))) in
+    let w = wrote_checked [] [] _ (c.args.at + 2) (big_endian_bytes 4 c.args.ip) (rw c.big_endian_bytes_4-bytes.ensures at c.write_part.ensures.value) (rw c.big_endian_bytes_4-bytes.ensures at c.write_part.ensures.out_after) tt tt (simp length-set (omega (arith, four))) in
+    let v = wrote_checked [] [] _ (c.args.at + 6) (vlq_bytes c.args.port) c.write_vlq.ensures.value c.write_vlq.ensures.out_after tt tt (omega (arith, simp length-set at (wrote_length w))) in
     let six : c.args.at + 6 ≡ c.args.at + 2 + length (big_endian_bytes 4 c.args.ip) = omega (arith, four) in
     (wrote_then (wrote_two c.args.out.now c.args.at 1 8) (wrote_then w (rw six at v))).bytes

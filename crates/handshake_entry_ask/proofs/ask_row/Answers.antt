@@ -50,7 +50,7 @@ features_size-requires c =
     let within = sym c.row_inside.ensures ∙ not-false _ c.if-not-row_inside.false in
     let short = sym c.strings_short.ensures ∙ not-false _ c.if-not-strings_short.false in
     let s = short_row c.args.features.now c.args.buffer.now c.args.e within short in
-    ((omega (arith, s.0, s.1, c.address_len.ensures.1), omega arith, own_range l c.args.e within), (parts_inside l c.args.e within).features)
+    record { before_bound = (omega (arith, s.0, s.1, c.address_len.ensures.1), omega arith, own_range l c.args.e within); count_value = (parts_inside l c.args.e within).features }
 
 pub returns : goal.returns
 returns c =

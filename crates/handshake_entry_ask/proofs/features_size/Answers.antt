@@ -22,7 +22,7 @@ pub loop-k-init : goal.loop-k-init
 loop-k-init c = (rw (sub-zero, rows-from (feature_row c.args.features.now) c.args.e.first c.args.e.count) (omega arith), omega arith, passed_start _ _ _)
 
 pub part_of-body-requires : goal.part_of-body-requires
-part_of-body-requires c = part-inside c.args.buffer.now c.args.features.now c.args.e.first c.args.e.count c.loop-k.k c.requires.1 (omega arith)
+part_of-body-requires c = part-inside c.args.buffer.now c.args.features.now c.args.e.first c.args.e.count c.loop-k.k c.requires.count_value (omega arith)
 
 pub returns-then-body-gt-MAX_BODY_SIZE : goal.returns-then-body-gt-MAX_BODY_SIZE
 unfolding sized body_within

@@ -14,20 +14,20 @@ pub put_head-a-requires : goal.put_head-a-requires
 put_head-a-requires c =
     let l = tables [] c.args.features.now c.args.buffer.now in
     let whole = length-entry l c.args.e in
-    ((c.requires.0.numbers, own-short l c.args.e ∙ c.requires.0.short), ((agent-part l c.args.e c.requires.0.inside, name-part l c.args.e c.requires.0.inside), omega (arith, whole)))
+    ((c.requires.ready.numbers, own-short l c.args.e ∙ c.requires.ready.short), ((agent-part l c.args.e c.requires.ready.inside, name-part l c.args.e c.requires.ready.inside), omega (arith, whole)))
 
 pub put_address-b-requires : goal.put_address-b-requires
 unfolding entry_inside inside
 put_address-b-requires c =
     let l = tables [] c.args.features.now c.args.buffer.now in
     let whole = length-entry l c.args.e in
-    ((c.requires.0.numbers, (parts_inside l c.args.e c.requires.0.inside).address), omega (arith, whole, c.put_head-a.ensures.end, wrote_length c.put_head-a.ensures))
+    ((c.requires.ready.numbers, (parts_inside l c.args.e c.requires.ready.inside).address), omega (arith, whole, c.put_head-a.ensures.end, wrote_length c.put_head-a.ensures))
 
 pub overflow_cast-out : goal.overflow_cast-out
 overflow_cast-out c =
     let l = tables [] c.args.features.now c.args.buffer.now in
     let whole = length-entry l c.args.e in
-    omega (arith, c.requires.0.few)
+    omega (arith, c.requires.ready.few)
 
 pub bounds-out-b : goal.bounds-out-b
 bounds-out-b c =
@@ -45,7 +45,7 @@ pub put_features-requires : goal.put_features-requires
 put_features-requires c =
     let l = tables [] c.args.features.now c.args.buffer.now in
     let whole = length-entry l c.args.e in
-    (own_range l c.args.e c.requires.0.inside, ((c.requires.0.ids, (parts_inside l c.args.e c.requires.0.inside).features), simp length-set (omega (arith, whole, c.put_head-a.ensures.end, wrote_length c.put_head-a.ensures, c.put_address-b.ensures.end, wrote_length c.put_address-b.ensures))))
+    (own_range l c.args.e c.requires.ready.inside, ((c.requires.ready.ids, (parts_inside l c.args.e c.requires.ready.inside).features), simp length-set (omega (arith, whole, c.put_head-a.ensures.end, wrote_length c.put_head-a.ensures, c.put_address-b.ensures.end, wrote_length c.put_address-b.ensures))))
 
 pub shape_of-out : goal.shape_of-out
 shape_of-out c = wrote_length c.put_features.ensures ∙ simp length-set (wrote_length c.put_address-b.ensures ∙ wrote_length c.put_head-a.ensures)

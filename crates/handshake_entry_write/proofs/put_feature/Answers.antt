@@ -11,7 +11,7 @@ use Rattle.handshake_entry_write.specs.NumbersLaws.{id-byte}
 use Rattle.handshake_entry_write.proofs.put_feature.Goals as goal
 
 pub overflow_cast-out : goal.overflow_cast-out
-overflow_cast-out c = omega (arith, id-byte c.args.f c.requires.0.0)
+overflow_cast-out c = omega (arith, id-byte c.args.f c.requires.f_value.0)
 
 pub bounds-out-at : goal.bounds-out-at
 bounds-out-at c =

@@ -11,12 +11,12 @@ use Rattle.handshake_entry_write.proofs.put_features.Goals as goal
 pub loop-k-init : goal.loop-k-init
 loop-k-init c =
     let e = rows-from (feature_row c.args.features.now) c.args.e.first c.args.e.count in
-    (omega arith, putting_start _ _ _ _ _ _ _ (rw e c.requires.1.0.0) (rw e c.requires.1.1))
+    (omega arith, putting_start _ _ _ _ _ _ _ (rw e c.requires.count_value.0) (rw e c.requires.count_in_bounds_2))
 
 pub put_feature-o-requires : goal.put_feature-o-requires
 put_feature-o-requires c =
-    let within = part-inside c.args.buffer.now c.args.features.now c.args.e.first c.args.e.count c.loop-k.k c.requires.1.0.1 (omega arith) in
-    ((putting_passed c.loop-k.invariant.1 (omega arith), within), putting_room c.loop-k.invariant.1 (omega arith))
+    let within = part-inside c.args.buffer.now c.args.features.now c.args.e.first c.args.e.count c.loop-k.k c.requires.count_value.1 (omega arith) in
+    record { f_value = (putting_passed c.loop-k.invariant.1 (omega arith), within); f_in_bounds = putting_room c.loop-k.invariant.1 (omega arith) }
 
 pub loop-k-preserved : goal.loop-k-preserved
 loop-k-preserved c = (c.loop-k.invariant.0, putting_turn c.loop-k.invariant.1 (omega arith) c.put_feature-o.ensures)

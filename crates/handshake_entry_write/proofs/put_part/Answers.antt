@@ -5,4 +5,4 @@ use Rattle.wire.specs.OutputLaws.{wrote_checked}
 use Rattle.handshake_entry_write.proofs.put_part.Goals as goal
 
 pub returns : goal.returns
-returns c = wrote_checked [] [] _ _ _ c.write_part.ensures.0 c.write_part.ensures.1 tt tt c.requires
+returns c = wrote_checked [] [] _ _ _ c.write_part.ensures.value c.write_part.ensures.out_after tt tt c.requires

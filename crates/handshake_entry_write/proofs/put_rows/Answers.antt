@@ -13,14 +13,14 @@ use Rattle.handshake_entry_write.proofs.put_rows.Goals as goal
 
 pub loop-k-init : goal.loop-k-init
 unfolding entries_of
-loop-k-init c = putting_start _ _ _ _ _ _ _ c.requires.0.inside c.requires.1
+loop-k-init c = putting_start _ _ _ _ _ _ _ c.requires.entries_ready.inside c.requires.buffer_in_bounds
 
 pub put_entry-o-requires : goal.put_entry-o-requires
 put_entry-o-requires c =
     let l = tables c.args.entries.now c.args.features.now c.args.buffer.now in
     let row = c.entry_at-e.ensures ∙ row-there l.entries c.loop-k.k (omega arith) in
-    rw row
-    (each-row_ready l c.loop-k.k (omega arith) c.requires.0, rw (own-entry l (entry_row l.entries c.loop-k.k)) (putting_room c.loop-k.invariant (omega arith)))
+    let e = rw row
+    (each-row_ready l c.loop-k.k (omega arith) c.requires.entries_ready, rw (own-entry l (entry_row l.entries c.loop-k.k)) (putting_room c.loop-k.invariant (omega arith))) in record { ready = e.0; e_in_bounds = e.1 }
 
 pub loop-k-preserved : goal.loop-k-preserved
 loop-k-preserved c =

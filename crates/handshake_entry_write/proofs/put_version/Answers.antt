@@ -7,16 +7,16 @@ use Rattle.wire.specs.OutputLaws.{wrote_three}
 use Rattle.handshake_entry_write.proofs.put_version.Goals as goal
 
 pub overflow_cast-out : goal.overflow_cast-out
-overflow_cast-out c = omega (arith, (numbers_of c.args.e c.requires.0).major)
+overflow_cast-out c = omega (arith, (numbers_of c.args.e c.requires.e_value).major)
 
 pub overflow_cast-out-2 : goal.overflow_cast-out-2
-overflow_cast-out-2 c = omega (arith, (numbers_of c.args.e c.requires.0).minor)
+overflow_cast-out-2 c = omega (arith, (numbers_of c.args.e c.requires.e_value).minor)
 
 pub bounds-out-at-2 : goal.bounds-out-at-2
 bounds-out-at-2 c = simp length-set (omega arith)
 
 pub overflow_cast-out-3 : goal.overflow_cast-out-3
-overflow_cast-out-3 c = omega (arith, (numbers_of c.args.e c.requires.0).patch)
+overflow_cast-out-3 c = omega (arith, (numbers_of c.args.e c.requires.e_value).patch)
 
 pub bounds-out-at-3 : goal.bounds-out-at-3
 bounds-out-at-3 c = simp length-set (omega arith)

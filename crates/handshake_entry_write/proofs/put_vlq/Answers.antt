@@ -16,7 +16,7 @@ pub returns-then-value-lt128 : goal.returns-then-value-lt128
 returns-then-value-lt128 c = rw (vlq-last c.args.value c.if-value-lt128.true) (wrote_byte c.args.out.now c.args.at c.args.value)
 
 pub returns-in-To : goal.returns-in-To
-returns-in-To c = wrote_to [] [] _ _ _ c.write_vlq.ensures.0 c.write_vlq.ensures.1 _ c.in-To.is
+returns-in-To c = wrote_to [] [] _ _ _ c.write_vlq.ensures.value c.write_vlq.ensures.out_after _ c.in-To.is
 
 pub returns-in-Refused : goal.returns-in-Refused
-returns-in-Refused c = not-refused [] [] _ _ _ c.write_vlq.ensures.0 tt tt c.requires c.in-Refused.is
+returns-in-Refused c = not-refused [] [] _ _ _ c.write_vlq.ensures.value tt tt c.requires c.in-Refused.is

@@ -13,7 +13,7 @@ put_entry-requires c =
     let yes = entry-accepted l c.args.k c.args.out.now c.args.at c.ask_entry.ensures c.ask_output-answer.ensures c.in-To.is in
     let lt = entry_in-table l c.args.k c.args.out.now c.args.at c.ask_entry.ensures c.ask_output-answer.ensures c.in-To.is in
     let row = c.entry_at.ensures ∙ row-there l.entries c.args.k lt in
-    rw row (yes.0, rw (own-entry l (entry_row l.entries c.args.k)) yes.1)
+    let e = rw row (yes.0, rw (own-entry l (entry_row l.entries c.args.k)) yes.1) in record { ready = e.0; e_in_bounds = e.1 }
 
 pub shape_of-out : goal.shape_of-out
 shape_of-out c = wrote_length c.put_entry.ensures
@@ -23,10 +23,10 @@ returns-in-To c =
     let l = tables c.args.entries.now c.args.features.now c.args.buffer.now in
     let lt = entry_in-table l c.args.k c.args.out.now c.args.at c.ask_entry.ensures c.ask_output-answer.ensures c.in-To.is in
     let row = c.entry_at.ensures ∙ row-there l.entries c.args.k lt in
-    entry_stored l c.args.k c.args.out.now c.args.at c.ask_entry.ensures c.ask_output-answer.ensures c.in-To.is
-    (rw (row, own-entry l (entry_row l.entries c.args.k)) at c.put_entry.ensures)
+    let e = entry_stored l c.args.k c.args.out.now c.args.at c.ask_entry.ensures c.ask_output-answer.ensures c.in-To.is
+    (rw (row, own-entry l (entry_row l.entries c.args.k)) at c.put_entry.ensures) in record { value = e.0; out_after = e.1 }
 
 pub returns-in_default : goal.returns-in_default
 returns-in_default c =
     let l = tables c.args.entries.now c.args.features.now c.args.buffer.now in
-    entry_kept l c.args.k c.args.out.now c.args.at c.ask_entry.ensures c.ask_output-answer.ensures c.in_default.is
+    let e = entry_kept l c.args.k c.args.out.now c.args.at c.ask_entry.ensures c.ask_output-answer.ensures c.in_default.is in record { value = e.0; out_after = e.1 }

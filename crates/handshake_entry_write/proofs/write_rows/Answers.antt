@@ -16,10 +16,10 @@ shape_of-out c = wrote_length c.put_rows.ensures
 pub returns-in-To : goal.returns-in-To
 returns-in-To c =
     let l = tables c.args.entries.now c.args.features.now c.args.buffer.now in
-    rows_stored l c.args.before c.args.out.now c.args.at c.ask_entries-size.ensures c.ask_output-written.ensures c.in-To.is
-    c.put_rows.ensures
+    let e = rows_stored l c.args.before c.args.out.now c.args.at c.ask_entries-size.ensures c.ask_output-written.ensures c.in-To.is
+    c.put_rows.ensures in record { value = e.0; out_after = e.1 }
 
 pub returns-in_default : goal.returns-in_default
 returns-in_default c =
     let l = tables c.args.entries.now c.args.features.now c.args.buffer.now in
-    rows-kept l c.args.before c.args.out.now c.args.at c.ask_entries-size.ensures c.ask_output-written.ensures c.in_default.is
+    let e = rows-kept l c.args.before c.args.out.now c.args.at c.ask_entries-size.ensures c.ask_output-written.ensures c.in_default.is in record { value = e.0; out_after = e.1 }

@@ -53,6 +53,6 @@ returns c =
     let e = c.zigzag_encode-kept.ensures ∙ ap zigzag_encode (to_z-of_z c.ranges.blocks-to-keep) in
     let size = length-mode c.args.mode c.args.state-type-id c.args.verifying c.args.blocks-to-keep e (omega arith) in
     let n = c.mode_len.ensures.0 c.args.state-type-id c.args.verifying ∙ ap (λ (x : ℤ). length (feature_bytes (mode_feature_of c.args.mode c.args.state-type-id c.args.verifying x))) (to_z-of_z c.ranges.blocks-to-keep) in
-    let w = wrote_checked [] [] _ c.put_nipopow-a.result (vlq_bytes c.zigzag_encode-kept.result) c.write_vlq.ensures.0 c.write_vlq.ensures.1 tt tt (omega (arith, size, c.put_nipopow-a.ensures.end, simp length-set at (wrote_length c.put_nipopow-a.ensures))) in
+    let w = wrote_checked [] [] _ c.put_nipopow-a.result (vlq_bytes c.zigzag_encode-kept.result) c.write_vlq.ensures.value c.write_vlq.ensures.out_after tt tt (omega (arith, size, c.put_nipopow-a.ensures.end, simp length-set at (wrote_length c.put_nipopow-a.ensures))) in
     let parts = mode_parts c.args.mode c.args.state-type-id c.args.verifying c.args.blocks-to-keep e (omega arith) {n = c.mode_len.result - 2} {flag = c.flag_of.result} (omega (arith, n, size)) c.flag_of.ensures in
     rw parts (wrote_then (wrote_four c.args.out.now c.args.at 16 _ c.args.state-type-id c.flag_of.result) (wrote_then c.put_nipopow-a.ensures w)).bytes

@@ -24,9 +24,9 @@ returns-in-To c =
     let bytes : ℤ → List ℕ = λ x. feature_bytes (session_feature_of c.args.network x) in
     let same = to_z-of_z c.ranges.session in
     let size = ap (λ (x : ℤ). length (bytes x)) same in
-    stored [] [] _ _ _ (rw (c.session_len.ensures.0 c.args.network ∙ size) at c.ask_room-answer.ensures) c.in-To.is (record { end = refl; bytes = c.put_session.ensures ∙ ap (λ (x : ℤ). put c.args.out.now c.args.at (bytes x)) same })
+    let e = stored [] [] _ _ _ (rw (c.session_len.ensures.0 c.args.network ∙ size) at c.ask_room-answer.ensures) c.in-To.is (record { end = refl; bytes = c.put_session.ensures ∙ ap (λ (x : ℤ). put c.args.out.now c.args.at (bytes x)) same }) in record { value = e.0; out_after = e.1 }
 
 pub returns-in_default : goal.returns-in_default
 returns-in_default c =
     let size = ap (λ (x : ℤ). length (feature_bytes (session_feature_of c.args.network x))) (to_z-of_z c.ranges.session) in
-    kept [] [] _ _ _ (rw (c.session_len.ensures.0 c.args.network ∙ size) at c.ask_room-answer.ensures) c.in_default.is
+    let e = kept [] [] _ _ _ (rw (c.session_len.ensures.0 c.args.network ∙ size) at c.ask_room-answer.ensures) c.in_default.is in record { value = e.0; out_after = e.1 }

@@ -16,17 +16,17 @@ overflow_add-at-3 c = omega (arith, c.vlq_len.ensures, length_parts c.args.modif
 pub put_rows-requires : goal.put_rows-requires
 put_rows-requires c =
     let parts = length_parts c.args.modifier-type c.args.ids.now c.args.buffer.now in
-    let w = count_stored c.args.modifier-type (length c.args.ids.now) c.args.out.now c.args.at (omega (arith, parts, c.requires.1)) c.write_vlq.ensures.0 c.write_vlq.ensures.1 in
-    (c.requires.0, omega (arith, parts, c.requires.1, c.vlq_len.ensures, wrote_length w))
+    let w = count_stored c.args.modifier-type (length c.args.ids.now) c.args.out.now c.args.at (omega (arith, parts, c.requires.buffer_in_bounds)) c.write_vlq.ensures.value c.write_vlq.ensures.out_after in
+    (c.requires.buffer_value, omega (arith, parts, c.requires.buffer_in_bounds, c.vlq_len.ensures, wrote_length w))
 
 pub shape_of-out : goal.shape_of-out
 shape_of-out c =
     let parts = length_parts c.args.modifier-type c.args.ids.now c.args.buffer.now in
-    let w = count_stored c.args.modifier-type (length c.args.ids.now) c.args.out.now c.args.at (omega (arith, parts, c.requires.1)) c.write_vlq.ensures.0 c.write_vlq.ensures.1 in
+    let w = count_stored c.args.modifier-type (length c.args.ids.now) c.args.out.now c.args.at (omega (arith, parts, c.requires.buffer_in_bounds)) c.write_vlq.ensures.value c.write_vlq.ensures.out_after in
     wrote_length c.put_rows.ensures ∙ wrote_length w
 
 pub returns : goal.returns
 returns c =
     let parts = length_parts c.args.modifier-type c.args.ids.now c.args.buffer.now in
-    let w = count_stored c.args.modifier-type (length c.args.ids.now) c.args.out.now c.args.at (omega (arith, parts, c.requires.1)) c.write_vlq.ensures.0 c.write_vlq.ensures.1 in
+    let w = count_stored c.args.modifier-type (length c.args.ids.now) c.args.out.now c.args.at (omega (arith, parts, c.requires.buffer_in_bounds)) c.write_vlq.ensures.value c.write_vlq.ensures.out_after in
     rw (ids_parts c.args.modifier-type c.args.ids.now c.args.buffer.now) (wrote_then w (rw c.vlq_len.ensures at c.put_rows.ensures))

@@ -10,7 +10,7 @@ use Rattle.messages_inventory_write.proofs.put_rows.Goals as goal
 
 pub loop-i-init : goal.loop-i-init
 unfolding ids_of
-loop-i-init c = putting_start _ _ _ _ _ _ _ c.requires.0 c.requires.1
+loop-i-init c = putting_start _ _ _ _ _ _ _ c.requires.buffer_value c.requires.buffer_in_bounds
 
 pub overflow_cast-from : goal.overflow_cast-from
 overflow_cast-from c = omega (arith, c.shared_slice_known-in-loop-i-1.given c.loop-i.i)
@@ -22,7 +22,7 @@ pub overflow_add-o : goal.overflow_add-o
 overflow_add-o c = omega (arith, id-room c.args.ids.now c.args.buffer.now c.loop-i.invariant (omega arith))
 
 pub loop-i-preserved : goal.loop-i-preserved
-loop-i-preserved c = id_stored c.args.ids.now c.args.buffer.now c.loop-i.invariant (omega arith) c.id_at-id.ensures c.write_part.ensures.0 c.write_part.ensures.1
+loop-i-preserved c = id_stored c.args.ids.now c.args.buffer.now c.loop-i.invariant (omega arith) c.id_at-id.ensures c.write_part.ensures.value c.write_part.ensures.out_after
 
 pub shape_of-out : goal.shape_of-out
 shape_of-out c = c.loop-i.invariant.writing.size

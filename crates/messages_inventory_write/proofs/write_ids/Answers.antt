@@ -9,7 +9,7 @@ pub put_ids-requires : goal.put_ids-requires
 put_ids-requires c = asked-ids c.args.modifier-type c.args.ids.now c.args.buffer.now (length c.args.out.now) c.args.at c.ask_ids-answer.ensures c.in-To.is
 
 pub returns-in-To : goal.returns-in-To
-returns-in-To c = (c.ask_ids-answer.ensures, after-put _ _ _ c.in-To.is c.put_ids.ensures)
+returns-in-To c = record { value = c.ask_ids-answer.ensures; out_after = after-put _ _ _ c.in-To.is c.put_ids.ensures }
 
 pub returns-in_default : goal.returns-in_default
-returns-in_default c = (c.ask_ids-answer.ensures, after-refused _ _ c.in_default.is)
+returns-in_default c = record { value = c.ask_ids-answer.ensures; out_after = after-refused _ _ c.in_default.is }

@@ -8,4 +8,5 @@ use Rattle.messages_inventory_write.proofs.write_modifier_request.Goals as goal
 
 pub returns : goal.returns
 unfolding value_of code_of body_bytes
-returns c = (c.write_ids.ensures.0 ∙ said-request c.args.network c.args.modifier-type c.args.ids.now c.args.buffer.now c.args.out.now c.args.at, c.write_ids.ensures.1)
+returns c =
+    record { value = c.write_ids.ensures.value ∙ said-request c.args.network c.args.modifier-type c.args.ids.now c.args.buffer.now c.args.out.now c.args.at; out_after = c.write_ids.ensures.out_after }

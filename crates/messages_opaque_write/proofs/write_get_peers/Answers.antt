@@ -8,4 +8,5 @@ use Rattle.messages_opaque_write.proofs.write_get_peers.Goals as goal
 
 pub returns : goal.returns
 unfolding value_of code_of body_bytes
-returns c = (c.close_frame.ensures.0 ∙ said_get_peers c.args.network c.args.out.now c.args.at, c.close_frame.ensures.1)
+returns c =
+    record { value = c.close_frame.ensures.value ∙ said_get_peers c.args.network c.args.out.now c.args.at; out_after = c.close_frame.ensures.out_after }

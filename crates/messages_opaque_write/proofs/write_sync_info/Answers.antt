@@ -8,4 +8,5 @@ use Rattle.messages_opaque_write.proofs.write_sync_info.Goals as goal
 
 pub returns : goal.returns
 unfolding value_of code_of body_bytes
-returns c = (c.encode.ensures.0 ∙ said-sync_info c.args.network c.args.body.now c.args.out.now c.args.at, c.encode.ensures.1)
+returns c =
+    record { value = c.encode.ensures.value ∙ said-sync_info c.args.network c.args.body.now c.args.out.now c.args.at; out_after = c.encode.ensures.out_after }

@@ -10,10 +10,11 @@ use Rattle.messages_opaque_write.proofs.write_unknown.Goals as goal
 pub returns-in-To : goal.returns-in-To
 unfolding value_of code_of body_bytes
 returns-in-To c =
-    (
+    let e = (
       c.ask_unknown-answer.ensures ∙ said-unknown c.args.network c.args.code c.args.body.now c.args.out.now c.args.at,
-      stored_unknown c.args.network c.args.code c.args.body.now c.args.out.now c.args.at c.ask_unknown-answer.ensures c.in-To.is c.encode.ensures.0 c.encode.ensures.1,
-    )
+      stored_unknown c.args.network c.args.code c.args.body.now c.args.out.now c.args.at c.ask_unknown-answer.ensures c.in-To.is c.encode.ensures.value c.encode.ensures.out_after,
+    ) in record { value = e.0; out_after = e.1 }
 
 pub returns-in_default : goal.returns-in_default
-returns-in_default c = (c.ask_unknown-answer.ensures ∙ said-unknown c.args.network c.args.code c.args.body.now c.args.out.now c.args.at, after-refused _ _ c.in_default.is)
+returns-in_default c =
+    record { value = c.ask_unknown-answer.ensures ∙ said-unknown c.args.network c.args.code c.args.body.now c.args.out.now c.args.at; out_after = after-refused _ _ c.in_default.is }

@@ -19,7 +19,7 @@ unfolding value_of code_of
 returns-then-has_start c =
     let l = tables c.args.entries.now c.args.features.now c.args.buffer.now in
     let start = sym c.has_start.ensures ∙ c.if-has_start.true in
-    (c.write_peers_frame.ensures.0 ∙ rows-peers c.args.network c.args.cap l c.args.out.now c.args.at start, (c.write_peers_frame.ensures.1, all_bytes_lem _ (λ i. omega (arith, c.shared_slice_known-3-1.given i))))
+    record { value = c.write_peers_frame.ensures.value ∙ rows-peers c.args.network c.args.cap l c.args.out.now c.args.at start; out_after = c.write_peers_frame.ensures.out_after; buffer_value = all_bytes_lem _ (λ i. omega (arith, c.shared_slice_known-3-1.given i)) }
 
 pub returns : goal.returns
 returns c =
@@ -27,4 +27,4 @@ returns c =
     let start = sym c.has_start.ensures ∙ c.if-has_start.false in
     let size = rw c.vlq_len.ensures at c.ask_entries-size.ensures in
     let says = rw (c.first_refusal-refusal.ensures, size) at c.ask_output.ensures ∙ refused-peers c.args.network c.args.cap l c.args.out.now c.args.at start in
-    (says, (not-started c.args.network c.args.cap l c.args.out.now c.args.at _ _ says start, all_bytes_lem _ (λ i. omega (arith, c.shared_slice_known-3-1.given i))))
+    record { value = says; out_after = not-started c.args.network c.args.cap l c.args.out.now c.args.at _ _ says start; buffer_value = all_bytes_lem _ (λ i. omega (arith, c.shared_slice_known-3-1.given i)) }

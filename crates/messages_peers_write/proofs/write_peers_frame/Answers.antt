@@ -17,10 +17,10 @@ pub returns-in-To : goal.returns-in-To
 returns-in-To c =
     let l = tables c.args.entries.now c.args.features.now c.args.buffer.now in
     let w = rw c.vlq_len-before.ensures at c.write_rows-answer.ensures in
-    (sym c.in-To.is ∙ w.0, frame_stored c.args.network l c.args.out.now c.args.at w.0 w.1 c.in-To.is c.write_vlq.ensures.0 c.write_vlq.ensures.1 c.close_frame.ensures.0 c.close_frame.ensures.1)
+    record { value = sym c.in-To.is ∙ w.0; out_after = frame_stored c.args.network l c.args.out.now c.args.at w.0 w.1 c.in-To.is c.write_vlq.ensures.value c.write_vlq.ensures.out_after c.close_frame.ensures.value c.close_frame.ensures.out_after }
 
 pub returns-in_default : goal.returns-in_default
 returns-in_default c =
     let l = tables c.args.entries.now c.args.features.now c.args.buffer.now in
     let w = rw c.vlq_len-before.ensures at c.write_rows-answer.ensures in
-    (w.0, w.1 ∙ sym (after-refused _ _ c.in_default.is) ∙ after-refused _ _ c.in_default.is)
+    record { value = w.0; out_after = w.1 ∙ sym (after-refused _ _ c.in_default.is) ∙ after-refused _ _ c.in_default.is }

@@ -56,7 +56,8 @@ returns-then-payloads-gt-MAX_INV_OBJECTS c =
     )
 
 pub response_len-requires : goal.response_len-requires
-response_len-requires c = (omega arith, sym c.payloads_within.ensures ∙ not-false _ c.if-not-payloads_within.false)
+response_len-requires c =
+    record { payload_row_size_len_bound = omega arith; payloads_value = sym c.payloads_within.ensures ∙ not-false _ c.if-not-payloads_within.false }
 
 pub returns : goal.returns
 unfolding response_written_for frame_written_for asked whole_rows payload_inside inside

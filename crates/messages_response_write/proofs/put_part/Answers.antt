@@ -14,4 +14,4 @@ returns c =
     let z : c.args.from + c.args.n - c.args.from ≡ c.args.n = omega arith in
     let part = bytes_at c.args.buffer.now c.args.from c.args.n in
     let size = length_part c.args.n c.args.buffer.now c.args.from (omega arith) in
-    rw size at (wrote_checked [] [] c.args.out.now c.args.at part (rw z at c.write_part.ensures.0) (rw z at c.write_part.ensures.1) tt tt (omega (arith, size)))
+    rw size at (wrote_checked [] [] c.args.out.now c.args.at part (rw z at c.write_part.ensures.value) (rw z at c.write_part.ensures.out_after) tt tt (omega (arith, size)))

@@ -8,18 +8,18 @@ use Rattle.messages_response_write.proofs.put_payload.Goals as goal
 
 pub put_part-end-requires : goal.put_part-end-requires
 unfolding row_length
-put_part-end-requires c = (id-inside c.args.buffer.now c.args.row c.requires.0, omega (arith, c.requires.1, payload_long c.args.buffer.now c.args.row c.requires.0))
+put_part-end-requires c = (id-inside c.args.buffer.now c.args.row c.requires.row_value, omega (arith, c.requires.row_in_bounds, payload_long c.args.buffer.now c.args.row c.requires.row_value))
 
 pub overflow_add-end : goal.overflow_add-end
-overflow_add-end c = omega (arith, c.vlq_len.ensures, after-id c.args.buffer.now c.args.out.now c.args.at c.args.row c.requires.0 c.requires.1 c.put_part-end.ensures)
+overflow_add-end c = omega (arith, c.vlq_len.ensures, after-id c.args.buffer.now c.args.out.now c.args.at c.args.row c.requires.row_value c.requires.row_in_bounds c.put_part-end.ensures)
 
 pub put_part-requires : goal.put_part-requires
 put_part-requires c =
-    let room = after-id c.args.buffer.now c.args.out.now c.args.at c.args.row c.requires.0 c.requires.1 c.put_part-end.ensures in
-    let x = length_stored c.args.buffer.now c.args.out.now c.args.at c.args.row c.requires.0 c.requires.1 c.put_part-end.ensures c.write_vlq.ensures.0 c.write_vlq.ensures.1 in
-    (bytes_inside c.args.buffer.now c.args.row c.requires.0, omega (arith, room, c.vlq_len.ensures, wrote_length x))
+    let room = after-id c.args.buffer.now c.args.out.now c.args.at c.args.row c.requires.row_value c.requires.row_in_bounds c.put_part-end.ensures in
+    let x = length_stored c.args.buffer.now c.args.out.now c.args.at c.args.row c.requires.row_value c.requires.row_in_bounds c.put_part-end.ensures c.write_vlq.ensures.value c.write_vlq.ensures.out_after in
+    (bytes_inside c.args.buffer.now c.args.row c.requires.row_value, omega (arith, room, c.vlq_len.ensures, wrote_length x))
 
 pub returns : goal.returns
 returns c =
-    payload_stored c.args.buffer.now c.args.out.now c.args.at c.args.row c.requires.0 c.requires.1 c.put_part-end.ensures c.write_vlq.ensures.0 c.write_vlq.ensures.1
+    payload_stored c.args.buffer.now c.args.out.now c.args.at c.args.row c.requires.row_value c.requires.row_in_bounds c.put_part-end.ensures c.write_vlq.ensures.value c.write_vlq.ensures.out_after
     c.vlq_len.ensures c.put_part.ensures

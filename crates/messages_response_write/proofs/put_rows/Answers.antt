@@ -9,10 +9,11 @@ use Rattle.messages.specs.Writes.{payload_row, payload_from_row, payload_inside}
 use Rattle.messages_response_write.proofs.put_rows.Goals as goal
 
 pub loop-k-init : goal.loop-k-init
-loop-k-init c = putting_start _ _ _ _ _ _ _ c.requires.0 c.requires.1
+loop-k-init c = putting_start _ _ _ _ _ _ _ c.requires.payloads_value c.requires.buffer_in_bounds
 
 pub put_payload-o-requires : goal.put_payload-o-requires
-put_payload-o-requires c = rw c.payload_at.ensures (putting_passed c.loop-k.invariant (omega arith), putting_room c.loop-k.invariant (omega arith))
+put_payload-o-requires c =
+    let e = rw c.payload_at.ensures (putting_passed c.loop-k.invariant (omega arith), putting_room c.loop-k.invariant (omega arith)) in record { row_value = e.0; row_in_bounds = e.1 }
 
 pub loop-k-preserved : goal.loop-k-preserved
 loop-k-preserved c =

@@ -11,7 +11,7 @@ use Rattle.messages_response_write.proofs.LengthLoop.{Adding, adding_start, addi
 use Rattle.messages_response_write.proofs.rows_len.Goals as goal
 
 pub loop-k-init : goal.loop-k-init
-loop-k-init c = adding_start _ _ c.requires.0 c.requires.1
+loop-k-init c = adding_start _ _ c.requires.payload_row_size_len_bound c.requires.payloads_value
 
 pub row_len-size-requires : goal.row_len-size-requires
 row_len-size-requires c = ap row_within c.payload_at.ensures ∙ adding_within c.loop-k.invariant (omega arith)

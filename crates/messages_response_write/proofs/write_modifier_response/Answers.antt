@@ -14,7 +14,9 @@ put_response-requires c = asked-response c.args.modifier-type c.args.payloads.no
 
 pub returns-in-To : goal.returns-in-To
 unfolding value_of code_of
-returns-in-To c = (c.ask_response-answer.ensures ∙ said-response c.args.network c.args.modifier-type c.args.payloads.now c.args.buffer.now c.args.out.now c.args.at, after-put _ _ _ c.in-To.is c.put_response.ensures)
+returns-in-To c =
+    record { value = c.ask_response-answer.ensures ∙ said-response c.args.network c.args.modifier-type c.args.payloads.now c.args.buffer.now c.args.out.now c.args.at; out_after = after-put _ _ _ c.in-To.is c.put_response.ensures }
 
 pub returns-in_default : goal.returns-in_default
-returns-in_default c = (c.ask_response-answer.ensures ∙ said-response c.args.network c.args.modifier-type c.args.payloads.now c.args.buffer.now c.args.out.now c.args.at, after-refused _ _ c.in_default.is)
+returns-in_default c =
+    record { value = c.ask_response-answer.ensures ∙ said-response c.args.network c.args.modifier-type c.args.payloads.now c.args.buffer.now c.args.out.now c.args.at; out_after = after-refused _ _ c.in_default.is }

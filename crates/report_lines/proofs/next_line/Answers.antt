@@ -15,12 +15,15 @@ line-end w = omega (arith, w.end)
 
 pub returns-in-Handshake : goal.returns-in-Handshake
 unfolding next_of
-returns-in-Handshake c = (rw (line-end c.step_line-len.ensures.0, ← c.step-step.ensures, c.in-Handshake.is), (rw (← c.step-step.ensures) c.step_line-len.ensures.0.bytes, c.step_line-len.ensures.1))
+returns-in-Handshake c =
+    record { value = rw (line-end c.step_line-len.ensures.wrote, ← c.step-step.ensures, c.in-Handshake.is); line_after = rw (← c.step-step.ensures) c.step_line-len.ensures.wrote.bytes; len_bound = c.step_line-len.ensures.upper_bound }
 
 pub returns-in-Message : goal.returns-in-Message
 unfolding next_of
-returns-in-Message c = (rw (line-end c.step_line-len.ensures.0, ← c.step-step.ensures, c.in-Message.is), (rw (← c.step-step.ensures) c.step_line-len.ensures.0.bytes, c.step_line-len.ensures.1))
+returns-in-Message c =
+    record { value = rw (line-end c.step_line-len.ensures.wrote, ← c.step-step.ensures, c.in-Message.is); line_after = rw (← c.step-step.ensures) c.step_line-len.ensures.wrote.bytes; len_bound = c.step_line-len.ensures.upper_bound }
 
 pub returns-in_default : goal.returns-in_default
 unfolding next_of
-returns-in_default c = (rw (line-end c.step_line-len.ensures.0, ← c.step-step.ensures) (last_step c.step-step.result c.args.at (length c.args.s.now) c.in_default.keys3), (rw (← c.step-step.ensures) c.step_line-len.ensures.0.bytes, c.step_line-len.ensures.1))
+returns-in_default c =
+    record { value = rw (line-end c.step_line-len.ensures.wrote, ← c.step-step.ensures) (last_step c.step-step.result c.args.at (length c.args.s.now) c.in_default.keys3); line_after = rw (← c.step-step.ensures) c.step_line-len.ensures.wrote.bytes; len_bound = c.step_line-len.ensures.upper_bound }

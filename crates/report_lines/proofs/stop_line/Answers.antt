@@ -5,12 +5,12 @@ use Rattle.report_lines.proofs.stop_line.Goals as goal
 
 pub returns-in-Handshake : goal.returns-in-Handshake
 unfolding stop_text
-returns-in-Handshake c = rw c.in-Handshake.is (search rules)
+returns-in-Handshake c = let e = rw c.in-Handshake.is (search rules) in record { wrote = e.0; upper_bound = e.1 }
 
 pub returns-in-Frame : goal.returns-in-Frame
 unfolding stop_text
-returns-in-Frame c = rw c.in-Frame.is (search rules)
+returns-in-Frame c = let e = rw c.in-Frame.is (search rules) in record { wrote = e.0; upper_bound = e.1 }
 
 pub returns-in-Body : goal.returns-in-Body
 unfolding stop_text
-returns-in-Body c = rw c.in-Body.is (search rules)
+returns-in-Body c = let e = rw c.in-Body.is (search rules) in record { wrote = e.0; upper_bound = e.1 }

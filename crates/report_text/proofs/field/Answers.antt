@@ -6,8 +6,8 @@ use Rattle.report_text.proofs.field.Goals as goal
 
 pub returns : goal.returns
 returns c =
-    (
+    let e = (
       field_wrote c.args.line.now c.args.at c.args.text.now c.args.n c.decimal_len.result c.decimal_len.ensures (omega arith)
-          c.write_part.ensures.0 c.write_part.ensures.1 c.write_decimal.ensures.0 c.write_decimal.ensures.1,
+          c.write_part.ensures.value c.write_part.ensures.out_after c.write_decimal.ensures.value c.write_decimal.ensures.out_after,
       omega (arith, c.decimal_len.ensures.1),
-    )
+    ) in record { wrote = e.0; upper_bound = e.1 }

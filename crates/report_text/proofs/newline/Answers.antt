@@ -5,4 +5,4 @@ use Rattle.wire.specs.OutputLaws.{wrote_byte}
 use Rattle.report_text.proofs.newline.Goals as goal
 
 pub returns : goal.returns
-returns c = (wrote_byte c.args.line.now c.args.at 10, refl)
+returns c = record { wrote = wrote_byte c.args.line.now c.args.at 10; value = refl }

@@ -7,4 +7,5 @@ use Rattle.report_text.proofs.put_end.Goals as goal
 
 pub returns : goal.returns
 unfolding end_line
-returns c = (wrote_then c.field-a.ensures.0 c.newline.ensures.0, omega (arith, c.newline.ensures.1, c.field-a.ensures.1))
+returns c =
+    record { wrote = wrote_then c.field-a.ensures.wrote c.newline.ensures.wrote; upper_bound = omega (arith, c.newline.ensures.value, c.field-a.ensures.upper_bound) }

@@ -7,4 +7,5 @@ use Rattle.report_text.proofs.put_handshake.Goals as goal
 
 pub returns : goal.returns
 unfolding handshake_line
-returns c = (wrote_then c.span-a.ensures.0 (wrote_then c.version-b.ensures.0 (wrote_then c.field-c.ensures.0 c.newline.ensures.0)), omega (arith, c.newline.ensures.1, c.span-a.ensures.1, c.version-b.ensures.1, c.field-c.ensures.1))
+returns c =
+    record { wrote = wrote_then c.span-a.ensures.wrote (wrote_then c.version-b.ensures.wrote (wrote_then c.field-c.ensures.wrote c.newline.ensures.wrote)); upper_bound = omega (arith, c.newline.ensures.value, c.span-a.ensures.upper_bound, c.version-b.ensures.upper_bound, c.field-c.ensures.upper_bound) }

@@ -7,4 +7,5 @@ use Rattle.report_text.proofs.put_message.Goals as goal
 
 pub returns : goal.returns
 unfolding message_line
-returns c = (wrote_then c.put_message_text-a.ensures.0 c.newline.ensures.0, omega (arith, c.newline.ensures.1, c.put_message_text-a.ensures.1))
+returns c =
+    record { wrote = wrote_then c.put_message_text-a.ensures.wrote c.newline.ensures.wrote; upper_bound = omega (arith, c.newline.ensures.value, c.put_message_text-a.ensures.upper_bound) }

@@ -7,4 +7,5 @@ use Rattle.report_text.proofs.put_message_text.Goals as goal
 
 pub returns : goal.returns
 unfolding message_text
-returns c = (wrote_then c.span-a.ensures.0 c.field.ensures.0, omega (arith, c.span-a.ensures.1, c.field.ensures.1))
+returns c =
+    record { wrote = wrote_then c.span-a.ensures.wrote c.field.ensures.wrote; upper_bound = omega (arith, c.span-a.ensures.upper_bound, c.field.ensures.upper_bound) }

@@ -7,4 +7,5 @@ use Rattle.report_text.proofs.put_peers.Goals as goal
 
 pub returns : goal.returns
 unfolding peers_line
-returns c = (wrote_then c.put_message_text-a.ensures.0 (wrote_then c.field-b.ensures.0 (wrote_then c.field-c.ensures.0 c.newline.ensures.0)), omega (arith, c.newline.ensures.1, c.put_message_text-a.ensures.1, c.field-b.ensures.1, c.field-c.ensures.1))
+returns c =
+    record { wrote = wrote_then c.put_message_text-a.ensures.wrote (wrote_then c.field-b.ensures.wrote (wrote_then c.field-c.ensures.wrote c.newline.ensures.wrote)); upper_bound = omega (arith, c.newline.ensures.value, c.put_message_text-a.ensures.upper_bound, c.field-b.ensures.upper_bound, c.field-c.ensures.upper_bound) }

@@ -7,4 +7,5 @@ use Rattle.report_text.proofs.put_stop.Goals as goal
 
 pub returns : goal.returns
 unfolding stop_line
-returns c = (wrote_then c.span-a.ensures.0 c.newline.ensures.0, omega (arith, c.newline.ensures.1, c.span-a.ensures.1))
+returns c =
+    record { wrote = wrote_then c.span-a.ensures.wrote c.newline.ensures.wrote; upper_bound = omega (arith, c.newline.ensures.value, c.span-a.ensures.upper_bound) }

@@ -7,4 +7,5 @@ use Rattle.report_text.proofs.span.Goals as goal
 
 pub returns : goal.returns
 unfolding span
-returns c = (wrote_then c.field-a.ensures.0 c.field.ensures.0, omega (arith, c.field-a.ensures.1, c.field.ensures.1))
+returns c =
+    record { wrote = wrote_then c.field-a.ensures.wrote c.field.ensures.wrote; upper_bound = omega (arith, c.field-a.ensures.upper_bound, c.field.ensures.upper_bound) }

@@ -27,13 +27,15 @@ put_vlq-requires c = roomy c.args.out.now c.args.at c.args.value (omega arith) c
 pub returns-then-has_room : goal.returns-then-has_room
 returns-then-has_room c =
     let room = roomy c.args.out.now c.args.at c.args.value (omega arith) c.has_room.ensures c.if-has_room.true in
-    (ap To c.put_vlq.ensures.end ∙ sym (written-to [] [] c.args.out.now c.args.at (vlq_bytes c.args.value) tt tt room), after-to refl c.put_vlq.ensures)
+    record { value = ap To c.put_vlq.ensures.end ∙ sym (written-to [] [] c.args.out.now c.args.at (vlq_bytes c.args.value) tt tt room); out_after = after-to refl c.put_vlq.ensures }
 
 pub put_vlq-requires-in-To : goal.put_vlq-requires-in-To
 put_vlq-requires-in-To c = (accepted [] [] c.args.out.now c.args.at (vlq_bytes c.args.value) (rw c.vlq_len.ensures at c.ask_room-answer.ensures) c.in-To.is).room
 
 pub returns-in-To : goal.returns-in-To
-returns-in-To c = stored [] [] _ _ _ (rw c.vlq_len.ensures at c.ask_room-answer.ensures) c.in-To.is c.put_vlq-in-To.ensures
+returns-in-To c =
+    let e = stored [] [] _ _ _ (rw c.vlq_len.ensures at c.ask_room-answer.ensures) c.in-To.is c.put_vlq-in-To.ensures in record { value = e.0; out_after = e.1 }
 
 pub returns-in_default : goal.returns-in_default
-returns-in_default c = kept [] [] _ _ _ (rw c.vlq_len.ensures at c.ask_room-answer.ensures) c.in_default.is
+returns-in_default c =
+    let e = kept [] [] _ _ _ (rw c.vlq_len.ensures at c.ask_room-answer.ensures) c.in_default.is in record { value = e.0; out_after = e.1 }

@@ -10,7 +10,10 @@ pub bounds-out-at : goal.bounds-out-at
 bounds-out-at c = omega (arith, (accepted [] [] c.args.out.now c.args.at (c.args.b ∷ []) c.ask_room-answer.ensures c.in-To.is).room)
 
 pub returns-in-To : goal.returns-in-To
-returns-in-To c = stored [] [] _ _ (c.args.b ∷ []) c.ask_room-answer.ensures c.in-To.is (wrote_byte c.args.out.now c.args.at c.args.b)
+returns-in-To c =
+    let e = stored [] [] _ _ (c.args.b ∷ []) c.ask_room-answer.ensures c.in-To.is (wrote_byte c.args.out.now c.args.at c.args.b) in record { value = e.0; out_after = e.1 }
 
 pub returns-in_default : goal.returns-in_default
-returns-in_default c = kept [] [] _ _ (c.args.b ∷ []) c.ask_room-answer.ensures c.in_default.is
+returns-in_default c =
+    let e = kept [] [] _ _ (c.args.b ∷ []) c.ask_room-answer.ensures c.in_default.is
+ in record { value = e.0; out_after = e.1 }
