@@ -9,12 +9,6 @@ use borrow.Author.Rules.{rules}
 use borrow.Author.Tests.{not-true, not-false}
 use Rattle.frame_read.proofs.read_body.Goals as goal
 
-part-check-start : tie.Need-slice-bounds-check-start
-part-check-start c = search rules
-
-part-check-end : tie.Need-slice-bounds-check-end
-part-check-end c = search rules
-
 pub returns-then-n-eq0 : goal.returns-then-n-eq0
 returns-then-n-eq0 c = sym (body-empty c.args.s.now c.args.at c.args.n c.if-n-eq0.true)
 

@@ -6,12 +6,6 @@ use Rattle.vlq.specs.ShortStringLaws.{string-got, string_missing, string-outside
 use borrow.Author.Rules.{rules}
 use Rattle.vlq.proofs.Cursor.read_string.Goals as goal
 
-part-is-utf8-start : tie.Need-slice-bounds-is-utf8-start
-part-is-utf8-start c = search rules
-
-part-is-utf8-end : tie.Need-slice-bounds-is-utf8-end
-part-is-utf8-end c = search rules
-
 pub returns-then-s-at : goal.returns-then-s-at
 returns-then-s-at c = sym (string-outside c.args.n c.args.s.now c.args.self.at c.if-s-at.true)
 
