@@ -5,4 +5,4 @@ use Rattle.wire_text_write.specs.TextLaws.{decimal-length}
 use Rattle.wire_text_write.proofs.decimal_len.Goals as goal
 
 pub returns : goal.returns
-returns c = decimal-length _ _ _ c.decimal.ensures.1.0 (omega arith) c.decimal.ensures.1.1 c.decimal.ensures.0.1
+returns c = decimal-length _ _ _ c.decimal.ensures.len (omega arith) c.decimal.ensures.digits c.decimal.ensures.in_bounds.1

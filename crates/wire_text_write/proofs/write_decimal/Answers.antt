@@ -6,4 +6,4 @@ use Rattle.wire_text_write.proofs.write_decimal.Goals as goal
 
 pub returns : goal.returns
 returns c =
-    let e = rw (decimal_spelled _ _ _ c.decimal-k.ensures.1.0 (omega arith) c.decimal-k.ensures.1.1) at c.write_part.ensures in record { value = e.0; out_after = e.1 }
+    let e = rw (decimal_spelled _ _ _ c.decimal-k.ensures.len (omega arith) c.decimal-k.ensures.digits) at c.write_part.ensures in e
