@@ -1,10 +1,7 @@
--- `vlq_utf8::is_sequence` answers as utf8 does: each turn is one step of utf8From (`proofs/Walk.antt`). The measure is the bytes left.
-use Prim.Native.Nat.{◌-◌}
+-- `vlq_utf8::is_sequence` answers as utf8 does: each turn is one step of utf8_from (`proofs/Walk.antt`). The measure is the bytes left.
 use mathlib.Core.Path.{sym, ◌∙◌}
 use native.Mathlib.Omega.{arith}
-use borrow.Author.Rules.{rules}
-use lib.ListN.{length}
-use Rattle.vlq_utf8.proofs.Walk.{Stands, at-start, at_lead, at_ascii, at-bad, at_low, at_high, at-follower, at-end}
+use Rattle.vlq_utf8.proofs.Walk.{at-start, at_lead, at_ascii, at-bad, at_low, at_high, at-follower, at-end}
 use Rattle.vlq_utf8.proofs.is_sequence.Goals as goal
 
 pub loop-at-init : goal.loop-at-init

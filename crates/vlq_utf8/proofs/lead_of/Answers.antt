@@ -34,14 +34,14 @@ unfolding lead_of lead_in lead_rows
 returns-in-244 c = sym (ap lead_of c.in-244.is)
 
 pub returns-in-0-to-127 : goal.returns-in-0-to-127
-returns-in-0-to-127 c = lead_ascii _ c.if-b-lt128.true
+returns-in-0-to-127 c = lead_ascii c.args.b (omega arith)
 
 pub returns-in-194-to-223 : goal.returns-in-194-to-223
 unfolding lead_of lead_in lead_rows
 returns-in-194-to-223 c = lead_range (Followers 1 0x80 0xbf) 0xc2 30 c.args.b tt (omega arith) (omega arith)
 
 pub returns-in-225-to-236 : goal.returns-in-225-to-236
-returns-in-225-to-236 c = two _ c.if-b-lt224.false c.if-b-lt240.true c.in_default-1.rest.0.0.0.1 c.in_default-1.rest.0.0.1
+returns-in-225-to-236 c = two c.args.b (omega arith) (omega arith) (omega arith) (omega arith)
 
 pub returns-in-241-to-243 : goal.returns-in-241-to-243
 unfolding lead_of lead_in lead_rows

@@ -1,11 +1,8 @@
 -- `vlq_utf8::non_ascii` meets its contract: before each turn, where m is 0, none of the last eight bytes and no byte before `at` is above 0x7F.
 use Prim.Native.Nat.{◌+◌, ◌-◌, ◌≤◌}
-use native.Mathlib.Omega.{arith}
 use mathlib.Core.Path.{◌≡◌}
 use lib.ListN.{length, get_or}
 use Rattle.wire.specs.UpTo.{UpTo}
-use Rattle.wire.specs.UpToLaws.{upto_start, upto_end}
-use Rattle.vlq_utf8.specs.AsciiLaws.{ascii_join}
 use Rattle.vlq_utf8.proofs.non_ascii.Given as goal
 
 abbrev pub invariant-loop-at : goal.invariant-loop-at

@@ -1,9 +1,6 @@
 -- `vlq_utf8::non_ascii_block` meets its contract: before each turn m is 0 only where none of the i bytes so far is above 0x7F.
-use Prim.Native.Nat.{◌+◌, ◌-◌, ◌≤◌}
+use Prim.Native.Nat.{◌+◌}
 use native.Mathlib.Omega.{arith}
-use mathlib.Core.Path.{◌≡◌}
-use lib.ListN.{get_or}
-use Rattle.wire.specs.UpTo.{UpTo}
 use Rattle.wire.specs.UpToLaws.{upto_start, upto_end}
 use Rattle.vlq_utf8.specs.AsciiLaws.{high-next}
 use Rattle.vlq_utf8.proofs.non_ascii_block.Goals as goal
