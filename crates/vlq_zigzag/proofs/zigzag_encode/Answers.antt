@@ -7,11 +7,13 @@ use Rattle.vlq_zigzag.specs.ZigzagLaws.{encode-fits}
 use Rattle.vlq_zigzag.proofs.Casts.{widens, widened}
 use Rattle.vlq_zigzag.proofs.zigzag_encode.Goals as goal
 
-encoded : (c : tie.After-zigzag-encode-i64) → c.zigzag-encode-i64.result ≡ zigzag_encode c.before.args.value
-encoded c = c.zigzag-encode-i64.ensures ∙ ap zigzag_encode (widened w32 w64 tt _ c.before.ranges.value)
-
 pub overflow_cast-value : goal.overflow_cast-value
 overflow_cast-value c = widens w32 w64 tt _ c.ranges.value
 
 pub overflow_cast-result : goal.overflow_cast-result
-overflow_cast-result c = subst (Fits w32) (sym (encoded c)) (encode-fits w32 _ c.ranges.value)
+overflow_cast-result c =
+    let e : c.zigzag_encode_i64.result ≡ zigzag_encode c.args.value = c.zigzag_encode_i64.ensures ∙ ap zigzag_encode (widened w32 w64 tt _ c.ranges.value) in
+    subst (Fits w32) (sym e) (encode-fits w32 _ c.ranges.value)
+
+pub returns : goal.returns
+returns c = c.zigzag_encode_i64.ensures ∙ ap zigzag_encode (widened w32 w64 tt _ c.ranges.value)

@@ -12,16 +12,16 @@ pub overflow_mul-x : goal.overflow_mul-x
 overflow_mul-x c = omega (arith, number_fits c.loop-i.invariant 0 (omega arith) (omega arith))
 
 pub bounds-s-i : goal.bounds-s-i
-bounds-s-i c = ltb-true _ _ c.if-i-s.true
+bounds-s-i c = c.if-i-s.true
 
 pub overflow_add-x : goal.overflow_add-x
 overflow_add-x c = omega (arith, number_fits c.loop-i.invariant c.wide.result (omega arith) c.wide.ensures.1)
 
 pub loop-i-preserved : goal.loop-i-preserved
-loop-i-preserved c = number_again c.loop-i.invariant c.wide.result c.wide.ensures.0 c.wide.ensures.1 (omega arith) (ltb-true _ _ c.if-i-s.true)
+loop-i-preserved c = number_again c.loop-i.invariant c.wide.result c.wide.ensures.0 c.wide.ensures.1 (omega arith) c.if-i-s.true
 
 pub returns-else-i-s : goal.returns-else-i-s
-returns-else-i-s c = number-all c.loop-i.invariant (ltb-false _ _ c.if-i-s.false)
+returns-else-i-s c = number-all c.loop-i.invariant c.if-i-s.false
 
 pub returns-after-loop-i : goal.returns-after-loop-i
 returns-after-loop-i c = number-end c.loop-i.invariant (omega arith)
