@@ -58,19 +58,19 @@ an_address bytes answer = case (Answer Address) (address bytes 0) answer
 
 -- the body of the feature Mode that `build` writes in Full
 abbrev full : ℕ → Bool → ℤ → Config
-full stateType verifying blocksToKeep =
+full state_type verifying blocks_to_keep =
     record {
       network = Mainnet;
       mode = Full;
-      stateType = stateType;
+      state_type = state_type;
       verifying = verifying;
-      blocksToKeep = blocksToKeep;
+      blocks_to_keep = blocks_to_keep;
       agent = [];
       version = record { major = 6; minor = 0; patch = 1 };
       name = [];
       address = None;
       timestamp = 0;
-      sessionId = pos 0;
+      session_id = pos 0;
     }
 
 abbrev a_mode : Config → List ℕ → Case

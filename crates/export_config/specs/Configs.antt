@@ -27,13 +27,13 @@ unfoldable pub address_numbers : ℕ → ℕ → ℕ → Bool
 address_numbers kind high low = eqb kind 0 || eqb kind 6 || eqb kind 4 && ltb high (2 ^ 32) && eqb low 0
 
 abbrev pub config_from : Network → ℕ → ℕ → ℕ → ℤ → ℕ → ℕ → ℕ → ℕ → ℕ → ℕ → ℕ → ℕ → ℤ → Config
-config_from network light stateType verifying blocksToKeep major minor patch kind high low port timestamp session =
+config_from network light state_type verifying blocks_to_keep major minor patch kind high low port timestamp session =
     record {
       network = network;
       mode = mode_of light;
-      state_type_id = stateType;
+      state_type_id = state_type;
       verifying = is_set verifying;
-      blocks_to_keep = blocksToKeep;
+      blocks_to_keep = blocks_to_keep;
       version = record { major = major; minor = minor; patch = patch };
       address = address_from kind high low port;
       timestamp = timestamp;
@@ -41,7 +41,7 @@ config_from network light stateType verifying blocksToKeep major minor patch kin
     }
 
 unfoldable pub config_read : Network → ℕ → ℕ → ℕ → ℤ → ℕ → ℕ → ℕ → ℕ → ℕ → ℕ → ℕ → ℕ → ℤ → ConfigRead
-config_read network light stateType verifying blocksToKeep major minor patch kind high low port timestamp session =
+config_read network light state_type verifying blocks_to_keep major minor patch kind high low port timestamp session =
     cond (address_numbers kind high low)
-    (Value (config_from network light stateType verifying blocksToKeep major minor patch kind high low port timestamp session))
+    (Value (config_from network light state_type verifying blocks_to_keep major minor patch kind high low port timestamp session))
     (Refused 16)

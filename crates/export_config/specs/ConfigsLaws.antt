@@ -15,13 +15,13 @@ asked-refused : (b : Bool) (x : Config) {m : ℕ} → ◌≡◌ {A = ConfigRead}
 asked-refused true x e = let z : ◌≡◌ {A = ℕ} 0 1 = cc in absurd (omega arith)
 asked-refused false x e = (refl, cc)
 
-module _ (network : Network) (light stateType verifying : ℕ) (blocksToKeep : ℤ) (major minor patch kind high low port timestamp : ℕ) (session : ℤ) where
-  pub value_of : {c : Config} → config_read network light stateType verifying blocksToKeep major minor patch kind high low port timestamp session ≡ Value c
-      → (address_numbers kind high low ≡ true) × (config_from network light stateType verifying blocksToKeep major minor patch kind high low port timestamp session ≡ c)
+module _ (network : Network) (light state_type verifying : ℕ) (blocks_to_keep : ℤ) (major minor patch kind high low port timestamp : ℕ) (session : ℤ) where
+  pub value_of : {c : Config} → config_read network light state_type verifying blocks_to_keep major minor patch kind high low port timestamp session ≡ Value c
+      → (address_numbers kind high low ≡ true) × (config_from network light state_type verifying blocks_to_keep major minor patch kind high low port timestamp session ≡ c)
   unfolding config_read
   value_of e = asked-value (address_numbers kind high low) _ e
 
-  pub refused-of : {m : ℕ} → config_read network light stateType verifying blocksToKeep major minor patch kind high low port timestamp session ≡ Refused m
+  pub refused-of : {m : ℕ} → config_read network light state_type verifying blocks_to_keep major minor patch kind high low port timestamp session ≡ Refused m
       → (address_numbers kind high low ≡ false) × (16 ≡ m)
   unfolding config_read
   refused-of e = asked-refused (address_numbers kind high low) _ e

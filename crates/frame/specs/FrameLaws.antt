@@ -22,26 +22,26 @@ use Rattle.frame.specs.Frame.{Header, header, BodyFrame, Checked, checked, body,
 
 -- ---- the cut law
 
-module _ {isCut : ℕ → Bool} where
-  stable_header : T (isCut 5) → Stable isCut header
+module _ {is_cut : ℕ → Bool} where
+  stable_header : T (is_cut 5) → Stable is_cut header
   unfolding header
   stable_header five =
       stable_field 5 9 _ five
       (record { same = λ s at k h u. rw (take-drop-take 4 at k s (omega arith), get_or-take k s (at + 4) 0 (omega arith), take-drop-take 4 (at + 5) k s (omega arith)) })
 
-  stable_checked : T (isCut 8) → (n : ℕ) → Stable isCut (checked n)
+  stable_checked : T (is_cut 8) → (n : ℕ) → Stable is_cut (checked n)
   unfolding checked
   stable_checked eight n =
       stable_field 8 (4 + n) _ eight
       (record { same = λ s at k h u. rw (take-drop-take 4 at k s (omega arith), take-drop-take n (at + 4) k s (omega arith)) })
 
-  stable_body : T (isCut 8) → (n : ℕ) → Stable isCut (body n)
+  stable_body : T (is_cut 8) → (n : ℕ) → Stable is_cut (body n)
   unfolding body
   stable_body eight zero = stable_then stable_place (λ at. stable_pure _)
   stable_body eight (suc n) = stable_then (stable_checked eight (suc n)) (λ c. stable_guard (same_bytes c.check (check c.body.bytes)) 9 c.body)
 
   -- where 5 and 8 count as cuts
-  pub stable_frame : (network : Network) → T (isCut 5) → T (isCut 8) → Stable isCut (frame network)
+  pub stable_frame : (network : Network) → T (is_cut 5) → T (is_cut 8) → Stable is_cut (frame network)
   unfolding frame
   stable_frame network five eight =
       stable_then (stable_header five) (λ h.
@@ -159,7 +159,7 @@ reads-header : (h : Header) → length h.magic ≡ 4 → h.body_length < 256 ^ 4
 unfolding header
 reads-header h four small =
     reads-field 5 9 _ (length-header h four)
-    (λ s at w. let r = header_bytes_lem h four small s at w in λ i. record { magic = r.0 i; code = r.1 i; bodyLength = r.2 i })
+    (λ s at w. let r = header_bytes_lem h four small s at w in λ i. record { magic = r.0 i; code = r.1 i; body_length = r.2 i })
 
 -- the check and the body of what was read
 abbrev check_and_body : Checked → List ℕ × List ℕ
@@ -193,7 +193,7 @@ pub reads-frame : (network : Network) (code : ℕ) (bs : List ℕ) → length bs
     → ReadsBack (frame network) frame_value (frame_bytes network code bs) (record { code = code; body = bs })
 unfolding frame frame_bytes header_bytes
 reads-frame network code bs small =
-    let h : Header = record { magic = magic_of network; code = code; bodyLength = length bs } in
+    let h : Header = record { magic = magic_of network; code = code; body_length = length bs } in
     rw (sym (append_assoc (magic_of network) (code ∷ big_endian_bytes 4 (length bs)) (checked_bytes bs)))
     (reads_then {w = header_bytes h} {w' = checked_bytes bs} (reads-header h (length-magic network) (omega arith)) (λ h₁ e₁. rw e₁
     (reads_then {see = λ x. x} {w = []} {w' = checked_bytes bs} (reads-guard (same_bytes (magic_of network) (magic_of network)) 6 h (same_self (magic_of network)) refl) (λ h₂ e₂. rw e₂
@@ -205,7 +205,7 @@ reads-frame network code bs small =
 pub length-frame_bytes : (network : Network) (code : ℕ) (bs : List ℕ) → length (frame_bytes network code bs) ≡ body_start 0 (length bs) + length bs
 unfolding frame_bytes header_bytes checked_bytes body_start
 length-frame_bytes network code bs =
-    let h : Header = record { magic = magic_of network; code = code; bodyLength = length bs } in
+    let h : Header = record { magic = magic_of network; code = code; body_length = length bs } in
     ap length (sym (append_assoc (magic_of network) (code ∷ big_endian_bytes 4 (length bs)) (checked_bytes bs)))
     ∙ length-append (header_bytes h) (checked_bytes bs) ∙ omega (arith, length-header h (length-magic network), length-checked_bytes bs)
   where

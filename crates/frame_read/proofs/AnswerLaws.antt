@@ -20,7 +20,7 @@ use Rattle.frame_read.specs.Answers.{stream_part_of, frame_of}
 -- ---- the header
 
 abbrev header_at : List ℕ → ℕ → Header
-header_at s at = record { magic = take 4 (drop at s); code = get_or s (at + 4) 0; bodyLength = big_endian (take 4 (drop (at + 5) s)) }
+header_at s at = record { magic = take 4 (drop at s); code = get_or s (at + 4) 0; body_length = big_endian (take 4 (drop (at + 5) s)) }
 
 module _ (s : List ℕ) (at : ℕ) where
   header-got : at + 9 ≤ length s → header s at ≡ got (header_at s at) (at + 9)

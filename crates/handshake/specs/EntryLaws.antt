@@ -23,12 +23,12 @@ local_version = record {
 
 -- ---- the cut law
 
-module _ {isCut : ℕ → Bool} (one : T (isCut 1)) where
-  pub stable_version : Stable isCut version
+module _ {is_cut : ℕ → Bool} (one : T (is_cut 1)) where
+  pub stable_version : Stable is_cut version
   unfolding version
   stable_version = stable_field 1 3 _ one local_version
 
-  pub stable_address : Stable isCut address
+  pub stable_address : Stable is_cut address
   unfolding address
   stable_address =
       stable_then (stable_byte one) (λ l.
@@ -36,11 +36,11 @@ module _ {isCut : ℕ → Bool} (one : T (isCut 1)) where
       stable_then (stable_vlq one) (λ port.
       stable_pure _)))
 
-  pub stable_address_if : (flag : ℕ) → Stable isCut (address_if flag)
+  pub stable_address_if : (flag : ℕ) → Stable is_cut (address_if flag)
   unfolding address_if
   stable_address_if flag = stable_cond (eqb flag 0) (stable_pure None) stable_address
 
-  pub stable_feature : Stable isCut feature
+  pub stable_feature : Stable is_cut feature
   unfolding feature
   stable_feature =
       stable_then (stable_byte one) (λ id.
@@ -48,7 +48,7 @@ module _ {isCut : ℕ → Bool} (one : T (isCut 1)) where
       stable_then (stable_part one n) (λ body.
       stable_pure (record { id = id; body = body }))))
 
-  pub stable_entry : Stable isCut entry
+  pub stable_entry : Stable is_cut entry
   unfolding entry
   stable_entry =
       stable_then (stable_short_string one) (λ agent.
@@ -61,7 +61,7 @@ module _ {isCut : ℕ → Bool} (one : T (isCut 1)) where
       stable_then (stable_list_of count (λ before. stable_feature)) (λ features.
       stable_pure _))))))))
 
-  pub stable_handshake : Stable isCut handshake
+  pub stable_handshake : Stable is_cut handshake
   unfolding handshake
   stable_handshake =
       stable_then (stable_vlq one) (λ timestamp.
@@ -76,7 +76,7 @@ any_cut m = true
 
 pub least-short_string : AtLeast 1 short_string
 unfolding short_string
-least-short_string = least_then {isCut = any_cut} 1 0 (stable_byte tt) least-byte (λ n. least-none {isCut = any_cut} (stable_string tt n))
+least-short_string = least_then {is_cut = any_cut} 1 0 (stable_byte tt) least-byte (λ n. least-none {is_cut = any_cut} (stable_string tt n))
 
 least-version : AtLeast 3 version
 unfolding version
@@ -86,19 +86,19 @@ least-version = least-field 1 3 _
 pub least-entry : AtLeast 7 entry
 unfolding entry
 least-entry =
-    least_then {isCut = any_cut} 1 6 (stable_short_string tt) least-short_string (λ agent.
-    least_then {isCut = any_cut} 3 3 (stable_version tt) least-version (λ version.
-    least_then {isCut = any_cut} 1 2 (stable_short_string tt) least-short_string (λ name.
-    least_then {isCut = any_cut} 1 1 (stable_byte tt) least-byte (λ flag.
-    least_then {isCut = any_cut} 0 1 (stable_address_if tt flag) (least-none {isCut = any_cut} (stable_address_if tt flag)) (λ address.
-    least_then {isCut = any_cut} 1 0 (stable_byte tt) least-byte (λ count.
-    least-none {isCut = any_cut}
+    least_then {is_cut = any_cut} 1 6 (stable_short_string tt) least-short_string (λ agent.
+    least_then {is_cut = any_cut} 3 3 (stable_version tt) least-version (λ version.
+    least_then {is_cut = any_cut} 1 2 (stable_short_string tt) least-short_string (λ name.
+    least_then {is_cut = any_cut} 1 1 (stable_byte tt) least-byte (λ flag.
+    least_then {is_cut = any_cut} 0 1 (stable_address_if tt flag) (least-none {is_cut = any_cut} (stable_address_if tt flag)) (λ address.
+    least_then {is_cut = any_cut} 1 0 (stable_byte tt) least-byte (λ count.
+    least-none {is_cut = any_cut}
     (stable_then stable_place (λ first. stable_then (stable_list_of count (λ before. stable_feature tt)) (λ features. stable_pure _)))))))))
 
 -- timestamp 1, entry 7
 pub least-handshake : AtLeast 8 handshake
 unfolding handshake
 least-handshake =
-    least_then {isCut = any_cut} 1 7 (stable_vlq tt) least-vlq (λ timestamp.
-    least_then {isCut = any_cut} 7 0 (stable_entry tt) least-entry (λ entry.
-    least-none {isCut = any_cut} (stable_pure _)))
+    least_then {is_cut = any_cut} 1 7 (stable_vlq tt) least-vlq (λ timestamp.
+    least_then {is_cut = any_cut} 7 0 (stable_entry tt) least-entry (λ entry.
+    least-none {is_cut = any_cut} (stable_pure _)))

@@ -80,15 +80,15 @@ config agent name =
     record {
       network = Mainnet;
       mode = Full;
-      stateType = 0;
+      state_type = 0;
       verifying = true;
-      blocksToKeep = pos 0;
+      blocks_to_keep = pos 0;
       agent = agent;
       version = v601;
       name = name;
       address = None;
       timestamp = 0;
-      sessionId = pos 0;
+      session_id = pos 0;
     }
 
 abbrev feature : List ℕ → FeatureValue

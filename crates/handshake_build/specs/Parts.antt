@@ -17,15 +17,15 @@ config_of c agent name =
     record {
       network = c.network;
       mode = c.mode;
-      stateType = c.state_type_id;
+      state_type = c.state_type_id;
       verifying = c.verifying;
-      blocksToKeep = c.blocks_to_keep;
+      blocks_to_keep = c.blocks_to_keep;
       agent = agent;
       version = c.version;
       name = name;
       address = c.address;
       timestamp = c.timestamp;
-      sessionId = c.session;
+      session_id = c.session;
     }
 
 -- ---- Only for laws, proofs and private functions: no public contract and no theorem cites what follows.

@@ -10,23 +10,23 @@ use Rattle.handshake.specs.Writes.{Config, mode_feature, session_feature}
 
 -- agent, version, name, address and timestamp are left empty
 abbrev made : Network → ProxyMode → ℕ → Bool → ℤ → ℤ → Config
-made network mode stateType verifying blocksToKeep session =
+made network mode state_type verifying blocks_to_keep session =
     record {
       network = network;
       mode = mode;
-      stateType = stateType;
+      state_type = state_type;
       verifying = verifying;
-      blocksToKeep = blocksToKeep;
+      blocks_to_keep = blocks_to_keep;
       agent = [];
       version = record { major = 0; minor = 0; patch = 0 };
       name = [];
       address = None;
       timestamp = 0;
-      sessionId = session;
+      session_id = session;
     }
 
 unfoldable pub mode_feature_of : ProxyMode → ℕ → Bool → ℤ → FeatureValue
-mode_feature_of mode stateType verifying blocksToKeep = mode_feature (made Mainnet mode stateType verifying blocksToKeep (pos 0))
+mode_feature_of mode state_type verifying blocks_to_keep = mode_feature (made Mainnet mode state_type verifying blocks_to_keep (pos 0))
 
 unfoldable pub session_feature_of : Network → ℤ → FeatureValue
 session_feature_of network session = session_feature (made network Full 0 false (pos 0) session)

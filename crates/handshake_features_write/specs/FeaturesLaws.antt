@@ -47,13 +47,13 @@ unfolding nipopow
 nipopow-two Full = omega arith
 nipopow-two Light = omega arith
 
-module _ (mode : ProxyMode) (stateType : ℕ) (verifying : Bool) (blocksToKeep : ℤ) {z : ℕ} (e : z ≡ zigzag_encode blocksToKeep) (small : z < 2 ^ 64) where
+module _ (mode : ProxyMode) (state_type : ℕ) (verifying : Bool) (blocks_to_keep : ℤ) {z : ℕ} (e : z ≡ zigzag_encode blocks_to_keep) (small : z < 2 ^ 64) where
   abbrev mode_feature_lem : FeatureValue
-  mode_feature_lem = mode_feature_of mode stateType verifying blocksToKeep
+  mode_feature_lem = mode_feature_of mode state_type verifying blocks_to_keep
 
-  mode_body_lem : mode_feature_lem.body ≡ stateType ∷ (cond verifying 1 0 ∷ (nipopow mode ++ vlq_bytes z))
+  mode_body_lem : mode_feature_lem.body ≡ state_type ∷ (cond verifying 1 0 ∷ (nipopow mode ++ vlq_bytes z))
   unfolding mode_feature_of mode_feature
-  mode_body_lem = ap (λ (y : ℕ). stateType ∷ (cond verifying 1 0 ∷ (nipopow mode ++ vlq_bytes y))) (sym e)
+  mode_body_lem = ap (λ (y : ℕ). state_type ∷ (cond verifying 1 0 ∷ (nipopow mode ++ vlq_bytes y))) (sym e)
 
   mode-size : length mode_feature_lem.body ≡ 2 + length (nipopow mode) + length (vlq_bytes z)
   mode-size = omega (arith, ap length mode_body_lem, length-append (nipopow mode) (vlq_bytes z))
@@ -65,11 +65,11 @@ module _ (mode : ProxyMode) (stateType : ℕ) (verifying : Bool) (blocksToKeep :
   length-mode = omega (arith, mode-size, short-length mode_feature_lem mode-short)
 
   pub mode_parts : {n flag : ℕ} → n + 2 ≡ length (feature_bytes mode_feature_lem) → flag ≡ cond verifying 1 0
-      → feature_bytes mode_feature_lem ≡ (16 ∷ n ∷ stateType ∷ flag ∷ []) ++ (nipopow mode ++ vlq_bytes z)
+      → feature_bytes mode_feature_lem ≡ (16 ∷ n ∷ state_type ∷ flag ∷ []) ++ (nipopow mode ++ vlq_bytes z)
   unfolding mode_feature_of mode_feature
   mode_parts {n} {flag} p q =
       short-of mode_feature_lem p mode-short ∙ ap (λ (l : List ℕ). 16 ∷ (n ∷ l)) mode_body_lem
-      ∙ ap (λ (x : ℕ). 16 ∷ (n ∷ (stateType ∷ (x ∷ (nipopow mode ++ vlq_bytes z))))) (sym q)
+      ∙ ap (λ (x : ℕ). 16 ∷ (n ∷ (state_type ∷ (x ∷ (nipopow mode ++ vlq_bytes z))))) (sym q)
 
 pub length-magic : (n : Network) → length (magic_of n) ≡ 4
 length-magic Mainnet = refl

@@ -10,8 +10,8 @@ use Rattle.export_arrays.specs.Networks.{network_of}
 use Rattle.export_config.specs.Configs.{address_numbers, config_from}
 
 abbrev pub built_from : ℕ → ℕ → ℕ → ℕ → ℤ → ℕ → ℕ → ℕ → ℕ → ℕ → ℕ → ℕ → ℕ → ℤ → Config
-built_from mainnet light stateType verifying blocksToKeep major minor patch kind high low port timestamp session =
-    config_from (network_of mainnet) light stateType verifying blocksToKeep major minor patch kind high low port timestamp session
+built_from mainnet light state_type verifying blocks_to_keep major minor patch kind high low port timestamp session =
+    config_from (network_of mainnet) light state_type verifying blocks_to_keep major minor patch kind high low port timestamp session
 
 -- what is said of numbers: 16 of those of the address, then all that `build` asks
 unfoldable pub built_from_written : ℕ → ℕ → ℕ → writes.Config → List ℕ → ℕ → Written

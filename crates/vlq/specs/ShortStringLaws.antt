@@ -29,12 +29,12 @@ module _ (n : ℕ) (s : List ℕ) (at : ℕ) where
   unfolding string map_answer
   string-outside h = rw (part-outside n s at h)
 
-module _ {isCut : ℕ → Bool} (one : T (isCut 1)) where
-  pub stable_string : (n : ℕ) → Stable isCut (string n)
+module _ {is_cut : ℕ → Bool} (one : T (is_cut 1)) where
+  pub stable_string : (n : ℕ) → Stable is_cut (string n)
   unfolding string
   stable_string n = stable_then (stable_part one n) (λ g. stable_guard (utf8 g.bytes) 4 g)
 
-  pub stable_short_string : Stable isCut short_string
+  pub stable_short_string : Stable is_cut short_string
   unfolding short_string
   stable_short_string = stable_then (stable_byte one) stable_string
 

@@ -14,19 +14,19 @@ use Rattle.vlq.specs.Vlq.{groups, vlq, limit, vlq_length, vlq_in, vlq_bytes}
 
 -- ---- the cut law
 
-module _ {isCut : ℕ → Bool} (one : T (isCut 1)) where
-  pub stable_groups : (n : ℕ) → Stable isCut (groups n)
+module _ {is_cut : ℕ → Bool} (one : T (is_cut 1)) where
+  pub stable_groups : (n : ℕ) → Stable is_cut (groups n)
   unfolding groups
   stable_groups zero = stable_refuse 2
   stable_groups (suc n) =
       stable_then (stable_byte one)
       (λ b. stable_cond (ltb b 0x80) (stable_pure b) (stable_then (stable_groups n) (λ rest. stable_pure (b % 0x80 + 0x80 * rest))))
 
-  pub stable_vlq : Stable isCut vlq
+  pub stable_vlq : Stable is_cut vlq
   unfolding vlq
   stable_vlq = stable_then (stable_groups 10) (λ sum. stable_pure (sum % 2 ^ 64))
 
-  pub stable_vlq_length : Stable isCut vlq_length
+  pub stable_vlq_length : Stable is_cut vlq_length
   unfolding vlq_length
   stable_vlq_length = stable_then stable_vlq (λ v. stable_guard (leb v limit) 3 v)
 
@@ -41,12 +41,12 @@ one_always = tt
 least-groups : (n : ℕ) → AtLeast 1 (groups (suc n))
 unfolding groups
 least-groups n =
-    least_then {isCut = always} 1 0 (stable_byte one_always) least-byte
-    (λ b. least-none {isCut = always} (stable_cond (ltb b 0x80) (stable_pure b) (stable_then (stable_groups one_always n) (λ rest. stable_pure (b % 0x80 + 0x80 * rest)))))
+    least_then {is_cut = always} 1 0 (stable_byte one_always) least-byte
+    (λ b. least-none {is_cut = always} (stable_cond (ltb b 0x80) (stable_pure b) (stable_then (stable_groups one_always n) (λ rest. stable_pure (b % 0x80 + 0x80 * rest)))))
 
 pub least-vlq : AtLeast 1 vlq
 unfolding vlq
-least-vlq = least_then {isCut = always} 1 0 (stable_groups one_always 10) (least-groups 9) (λ sum. least-none {isCut = always} (stable_pure (sum % 2 ^ 64)))
+least-vlq = least_then {is_cut = always} 1 0 (stable_groups one_always 10) (least-groups 9) (λ sum. least-none {is_cut = always} (stable_pure (sum % 2 ^ 64)))
 
 -- ---- the bytes of a VLQ
 

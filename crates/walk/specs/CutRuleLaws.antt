@@ -115,13 +115,13 @@ rule_of k full part c =
 
 -- ---- the walk
 
-module _ {F : Type 0} {handshakeAt : List ℕ → Opened F} {messageAt : List ℕ → ℕ → Opened F} {least : ℕ}
-    (laws : ReaderLaws F handshakeAt messageAt least) where
+module _ {F : Type 0} {handshake_at : List ℕ → Opened F} {message_at : List ℕ → ℕ → Opened F} {least : ℕ}
+    (laws : ReaderLaws F handshake_at message_at least) where
   abbrev Open : List ℕ → ℕ → Opened F
-  Open s at = open_at F handshakeAt messageAt s at
+  Open s at = open_at F handshake_at message_at s at
 
   abbrev Walk : List ℕ → ℕ → Reading F
-  Walk s at = walk F handshakeAt messageAt s at
+  Walk s at = walk F handshake_at message_at s at
 
   -- items from a place on end past k, if the first does
   none_by : {s : List ℕ} {at : ℕ} (k : ℕ) → Walks laws s at → ((f : F) (end : ℕ) → Open s at ≡ opened f end → k < end)
@@ -171,7 +171,7 @@ module _ {F : Type 0} {handshakeAt : List ℕ → Opened F} {messageAt : List �
       (from-item k at f end (Walk s end) (Walk (take k s) end) (omega (arith, laws.some)) (omega arith) (cut-from s k end (omega arith) g w))
 
   -- the cut rule, for all bytes and every cut up to their length
-  pub cut_rule : (s : List ℕ) (k : ℕ) → k ≤ length s → CutRule k (reading F handshakeAt messageAt s) (reading F handshakeAt messageAt (take k s))
+  pub cut_rule : (s : List ℕ) (k : ℕ) → k ≤ length s → CutRule k (reading F handshake_at message_at s) (reading F handshake_at message_at (take k s))
   unfolding reading
   cut_rule s k h =
       let n : length (take k s) ≡ k = length-take-le k s h in

@@ -10,13 +10,13 @@ use Rattle.walk.specs.WalkLaws.{OpenedCut, kept, own, short, open_at, ReaderLaws
 abbrev pub items_then : {F : Type 0} → List (Item F) → Reading F → Reading F
 items_then is r = record { items = is ++ r.items; ending = r.ending }
 
-module _ {F : Type 0} {handshakeAt : List ℕ → Opened F} {messageAt : List ℕ → ℕ → Opened F} {least : ℕ}
-    (laws : ReaderLaws F handshakeAt messageAt least) where
+module _ {F : Type 0} {handshake_at : List ℕ → Opened F} {message_at : List ℕ → ℕ → Opened F} {least : ℕ}
+    (laws : ReaderLaws F handshake_at message_at least) where
   abbrev Open : List ℕ → ℕ → Opened F
-  Open s at = open_at F handshakeAt messageAt s at
+  Open s at = open_at F handshake_at message_at s at
 
   abbrev Walk : List ℕ → ℕ → Reading F
-  Walk s at = walk F handshakeAt messageAt s at
+  Walk s at = walk F handshake_at message_at s at
 
   -- full is the reading of s from a place on, part that of its first k bytes
   pub record GrownFrom (s : List ℕ) (k : ℕ) (full part : Reading F) : Type 0 where

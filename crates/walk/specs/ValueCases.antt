@@ -119,15 +119,15 @@ config =
     record {
       network = Mainnet;
       mode = Light;
-      stateType = 255;
+      state_type = 255;
       verifying = true;
-      blocksToKeep = negsuc 2147483647;
+      blocks_to_keep = negsuc 2147483647;
       agent = last_char;
       version = built_version;
       name = ab;
       address = V4 max_u32 max_u16;
       timestamp = max_u64;
-      sessionId = negsuc 9223372036854775807;
+      session_id = negsuc 9223372036854775807;
     }
 
 abbrev mode_body : List ℕ

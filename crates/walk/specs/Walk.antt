@@ -52,12 +52,12 @@ onward clean_end next = record { items = []; ending = clean }
 onward (stop layer n at) next = record { items = []; ending = stopped layer n at }
 onward outside next = record { items = []; ending = unended }
 
-module _ (F : Type 0) (handshakeAt : List ℕ → Opened F) (messageAt : List ℕ → ℕ → Opened F) where
+module _ (F : Type 0) (handshake_at : List ℕ → Opened F) (message_at : List ℕ → ℕ → Opened F) where
   -- place 0 is a handshake; at a place equal to the length, unless that is 0, the walk ends cleanly; a place past the length is 12
   unfoldable pub step : List ℕ → ℕ → Step F
-  step s zero = step_to zero (handshakeAt s)
+  step s zero = step_to zero (handshake_at s)
   step s (suc at) =
-      cond (eqb (suc at) (length s)) clean_end (cond (leb (suc at) (length s)) (step_to (suc at) (messageAt s (suc at))) outside)
+      cond (eqb (suc at) (length s)) clean_end (cond (leb (suc at) (length s)) (step_to (suc at) (message_at s (suc at))) outside)
 
   unfoldable pub walk_in : ℕ → List ℕ → ℕ → Reading F
   walk_in zero s at = record { items = []; ending = unended }

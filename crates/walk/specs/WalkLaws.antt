@@ -26,18 +26,18 @@ pub data OpenedCut {F : Type 0} (k : ℕ) : Opened F → Opened F → Type 0 whe
   own : {layer : Layer} {n : ℕ} → OpenedCut k (refused_in layer n) (refused_in layer n)
   short : {o : Opened F} {layer : Layer} {n : ℕ} → Past k o → T (is_cut layer n) → OpenedCut k o (refused_in layer n)
 
-module _ (F : Type 0) (handshakeAt : List ℕ → Opened F) (messageAt : List ℕ → ℕ → Opened F) where
+module _ (F : Type 0) (handshake_at : List ℕ → Opened F) (message_at : List ℕ → ℕ → Opened F) where
   -- the item at a place: a handshake at 0, a message at any other
   unfoldable pub open_at : List ℕ → ℕ → Opened F
-  open_at s zero = handshakeAt s
-  open_at s (suc at) = messageAt s (suc at)
+  open_at s zero = handshake_at s
+  open_at s (suc at) = message_at s (suc at)
 
 -- an item takes `least` bytes at least, and at least one; and what a cut does to an item
-pub record ReaderLaws (F : Type 0) (handshakeAt : List ℕ → Opened F) (messageAt : List ℕ → ℕ → Opened F) (least : ℕ) : Type 0 where
+pub record ReaderLaws (F : Type 0) (handshake_at : List ℕ → Opened F) (message_at : List ℕ → ℕ → Opened F) (least : ℕ) : Type 0 where
   pub some : 0 < least
-  pub moves : (s : List ℕ) (at : ℕ) (f : F) (e : ℕ) → at ≤ length s → open_at F handshakeAt messageAt s at ≡ opened f e → at + least ≤ e
+  pub moves : (s : List ℕ) (at : ℕ) (f : F) (e : ℕ) → at ≤ length s → open_at F handshake_at message_at s at ≡ opened f e → at + least ≤ e
   pub cut : (s : List ℕ) (at k : ℕ) → at ≤ k → k ≤ length s
-      → OpenedCut k (open_at F handshakeAt messageAt s at) (open_at F handshakeAt messageAt (take k s) at)
+      → OpenedCut k (open_at F handshake_at message_at s at) (open_at F handshake_at message_at (take k s) at)
 
 pub opened-kept : {F : Type 0} {k : ℕ} {o p : Opened F} → OpenedCut k o p → (f : F) (e : ℕ) → p ≡ opened f e → (o ≡ opened f e) × (e ≤ k)
 opened-kept (kept {e = d} h) f e q = let y : d ≡ e = cc in (q, omega arith)
@@ -46,9 +46,9 @@ opened-kept (short b t) f e q = let z : ◌≡◌ {A = ℕ} 0 1 = cc in absurd (
 
 -- ---- the step at a place
 
-module _ (F : Type 0) (handshakeAt : List ℕ → Opened F) (messageAt : List ℕ → ℕ → Opened F) where
+module _ (F : Type 0) (handshake_at : List ℕ → Opened F) (message_at : List ℕ → ℕ → Opened F) where
   abbrev Steps : List ℕ → ℕ → Step F
-  Steps s at = step F handshakeAt messageAt s at
+  Steps s at = step F handshake_at message_at s at
 
   -- at the length, unless that is 0
   pub step_end : (s : List ℕ) (at : ℕ) → 0 < at → at ≡ length s → Steps s at ≡ clean_end
@@ -57,7 +57,7 @@ module _ (F : Type 0) (handshakeAt : List ℕ → Opened F) (messageAt : List �
   step_end s (suc at) h e = rw (eq-eqb (suc at) (length s) e)
 
   -- at 0, and at any place before the length
-  pub step_open : (s : List ℕ) (at : ℕ) → (0 < at → at < length s) → Steps s at ≡ step_to at (open_at F handshakeAt messageAt s at)
+  pub step_open : (s : List ℕ) (at : ℕ) → (0 < at → at < length s) → Steps s at ≡ step_to at (open_at F handshake_at message_at s at)
   unfolding step open_at
   step_open s zero h = refl
   step_open s (suc at) h =
@@ -88,16 +88,16 @@ item_then at f end r = record { items = record { start = at; end = end; holds = 
 abbrev Ends : Ending → Type 0
 Ends e = (e ≡ clean) ⊎ ((layer : Layer) × (n : ℕ) × (at : ℕ) × (e ≡ stopped layer n at))
 
-module _ {F : Type 0} {handshakeAt : List ℕ → Opened F} {messageAt : List ℕ → ℕ → Opened F} {least : ℕ}
-    (laws : ReaderLaws F handshakeAt messageAt least) where
+module _ {F : Type 0} {handshake_at : List ℕ → Opened F} {message_at : List ℕ → ℕ → Opened F} {least : ℕ}
+    (laws : ReaderLaws F handshake_at message_at least) where
   abbrev Open : List ℕ → ℕ → Opened F
-  Open s at = open_at F handshakeAt messageAt s at
+  Open s at = open_at F handshake_at message_at s at
 
   abbrev WalkIn : ℕ → List ℕ → ℕ → Reading F
-  WalkIn c s at = walk_in F handshakeAt messageAt c s at
+  WalkIn c s at = walk_in F handshake_at message_at c s at
 
   abbrev Walk : List ℕ → ℕ → Reading F
-  Walk s at = walk F handshakeAt messageAt s at
+  Walk s at = walk F handshake_at message_at s at
 
   -- what is opened ends within the bytes
   pub open_ends : (s : List ℕ) (at : ℕ) (f : F) (e : ℕ) → at ≤ length s → Open s at ≡ opened f e → e ≤ length s
@@ -131,17 +131,17 @@ module _ {F : Type 0} {handshakeAt : List ℕ → Opened F} {messageAt : List �
 
   in_over : (c : ℕ) (s : List ℕ) (at : ℕ) → 0 < at → at ≡ length s → WalkIn (suc c) s at ≡ record { items = []; ending = clean }
   unfolding walk_in onward
-  in_over c s at h e = rw (step_end F handshakeAt messageAt s at h e)
+  in_over c s at h e = rw (step_end F handshake_at message_at s at h e)
 
   in_stops : (c : ℕ) (s : List ℕ) (at : ℕ) (layer : Layer) (n : ℕ) → (0 < at → at < length s) → Open s at ≡ refused_in layer n
       → WalkIn (suc c) s at ≡ record { items = []; ending = stopped layer n at }
   unfolding walk_in onward step_to
-  in_stops c s at layer n b q = rw (step_open F handshakeAt messageAt s at b, q)
+  in_stops c s at layer n b q = rw (step_open F handshake_at message_at s at b, q)
 
   in_goes : (c : ℕ) (s : List ℕ) (at : ℕ) (f : F) (end : ℕ) → (0 < at → at < length s) → Open s at ≡ opened f end
       → WalkIn (suc c) s at ≡ item_then at f end (WalkIn c s end)
   unfolding walk_in onward step_to
-  in_goes c s at f end b q = rw (step_open F handshakeAt messageAt s at b, q)
+  in_goes c s at f end b q = rw (step_open F handshake_at message_at s at b, q)
 
   -- any count that is large enough gives the same
   same_count : {s : List ℕ} {at : ℕ} → Walks s at → (c d : ℕ) → length s ≤ at + c → length s ≤ at + d → WalkIn (suc c) s at ≡ WalkIn (suc d) s at
@@ -176,33 +176,33 @@ module _ {F : Type 0} {handshakeAt : List ℕ → Opened F} {messageAt : List �
       ∙ ap (item_then at f end) (same_count (walks s end e) (length s - at - 1) (length s - end) (omega (arith, laws.some)) (omega arith))
 
   -- the walk from a place is the step's answer there and, after an item, the walk from its end
-  pub walk_step : (s : List ℕ) (at : ℕ) → at ≤ length s → Walk s at ≡ onward (step F handshakeAt messageAt s at) (Walk s)
+  pub walk_step : (s : List ℕ) (at : ℕ) → at ≤ length s → Walk s at ≡ onward (step F handshake_at message_at s at) (Walk s)
   unfolding onward step_to
   walk_step s at h = go (walks s at h)
     where
-      go : Walks s at → Walk s at ≡ onward (step F handshakeAt messageAt s at) (Walk s)
-      go (over z e) = rw (walk-over s at z e, step_end F handshakeAt messageAt s at z e)
-      go (stops layer n b q) = rw (walk-stops s at layer n b q, step_open F handshakeAt messageAt s at b, q)
-      go (goes f end b q m l w) = rw (walk-goes s at f end h b q, step_open F handshakeAt messageAt s at b, q)
+      go : Walks s at → Walk s at ≡ onward (step F handshake_at message_at s at) (Walk s)
+      go (over z e) = rw (walk-over s at z e, step_end F handshake_at message_at s at z e)
+      go (stops layer n b q) = rw (walk-stops s at layer n b q, step_open F handshake_at message_at s at b, q)
+      go (goes f end b q m l w) = rw (walk-goes s at f end h b q, step_open F handshake_at message_at s at b, q)
 
   -- an item of a step is what stands at its place
-  pub step-opened : (s : List ℕ) (at : ℕ) (i : Item F) → at ≤ length s → step F handshakeAt messageAt s at ≡ item i
+  pub step-opened : (s : List ℕ) (at : ℕ) (i : Item F) → at ≤ length s → step F handshake_at message_at s at ≡ item i
       → (i.start ≡ at) × (Open s at ≡ opened i.holds i.end)
   unfolding step_to
   step-opened s at i h p = go (walks s at h)
     where
       go : Walks s at → (i.start ≡ at) × (Open s at ≡ opened i.holds i.end)
-      go (over z e) = let x = sym (step_end F handshakeAt messageAt s at z e) ∙ p in let y : ◌≡◌ {A = ℕ} 0 1 = cc in absurd (omega arith)
+      go (over z e) = let x = sym (step_end F handshake_at message_at s at z e) ∙ p in let y : ◌≡◌ {A = ℕ} 0 1 = cc in absurd (omega arith)
       go (stops layer n b q) =
-          let x : stop layer n at ≡ item i = ap (step_to at) (sym q) ∙ sym (step_open F handshakeAt messageAt s at b) ∙ p in
+          let x : stop layer n at ≡ item i = ap (step_to at) (sym q) ∙ sym (step_open F handshake_at message_at s at b) ∙ p in
           let y : ◌≡◌ {A = ℕ} 0 1 = cc in absurd (omega arith)
       go (goes f end b q m l w) =
-          let x : item (record { start = at; end = end; holds = f }) ≡ item i = ap (step_to at) (sym q) ∙ sym (step_open F handshakeAt messageAt s at b) ∙ p in
+          let x : item (record { start = at; end = end; holds = f }) ≡ item i = ap (step_to at) (sym q) ∙ sym (step_open F handshake_at message_at s at b) ∙ p in
           let j : record { start = at; end = end; holds = f } ≡ i = cc in
           (sym (ap (λ (x : Item F). x.start) j), q ∙ ap (λ (x : Item F). opened x.holds x.end) j)
 
   -- it starts at its place, and ends after it, within the bytes
-  pub step-item : (s : List ℕ) (at : ℕ) (i : Item F) → at ≤ length s → step F handshakeAt messageAt s at ≡ item i
+  pub step-item : (s : List ℕ) (at : ℕ) (i : Item F) → at ≤ length s → step F handshake_at message_at s at ≡ item i
       → (i.start ≡ at) × (at + least ≤ i.end) × (i.end ≤ length s)
   step-item s at i h p =
       let o = step-opened s at i h p in

@@ -198,7 +198,7 @@ module _ (s : List ℕ) (body : StreamPart) (fits : length s < 2 ^ 64) (inside :
       let r = entry_read cap k (part_in s body) q in
       let g = gives-entry.holds a e r.1 in
       let l = body-length in
-      let end : e ≤ length (part_in s body) = stable_ends {isCut = λ m. true} (stable_entry tt) (part_in s body) r.0 a e (omega (arith, g.0, g.1.agent.within)) r.1 in
+      let end : e ≤ length (part_in s body) = stable_ends {is_cut = λ m. true} (stable_entry tt) (part_in s body) r.0 a e (omega (arith, g.0, g.1.agent.within)) r.1 in
       let x = in_stream_lem a.agent.start (starts_within a.agent.start a.agent.bytes g.1.agent) in
       let y = in_stream_lem a.name.start (starts_within a.name.start a.name.bytes g.1.name) in
       let z = in_stream_lem a.first (omega (arith, first-within.holds a e r.1)) in

@@ -92,7 +92,7 @@ module _ (network : Network) (cap : ℕ) where
   cut-by_index s k at index h =
       let r = reached_by_index network cap s k at h in (
         λ i g l. let b = r.0 i g l in (b.id_by_index index, b.payload_by_index index, b.entry_by_index index),
-        λ i g l. (r.1 i g l).featureByIndex index,
+        λ i g l. (r.1 i g l).feature_by_index index,
       )
 
   pub verdict-in_order : VerdictInOrder network cap

@@ -55,13 +55,13 @@ same_body cap part whole body h e =
     record {
       inside = h;
       bytes = e;
-      idByIndex = λ index. ap (id_at index) e;
-      payloadByIndex = λ index. ap (payload_at index) e;
-      entryByIndex = λ index. ap (entry_at cap index) e;
-      featureByIndex = λ index at. ap (λ (b : List ℕ). feature_at index b at) e;
+      id_by_index = λ index. ap (id_at index) e;
+      payload_by_index = λ index. ap (payload_at index) e;
+      entry_by_index = λ index. ap (entry_at cap index) e;
+      feature_by_index = λ index at. ap (λ (b : List ℕ). feature_at index b at) e;
       readPayload = λ total at. ap (λ (b : List ℕ). payload_after (length b) total b at) e;
       read_entry = λ at. ap (λ (b : List ℕ). entry b at) e;
-      readFeature = λ at. ap (λ (b : List ℕ). feature b at) e;
+      read_feature = λ at. ap (λ (b : List ℕ). feature b at) e;
     }
 
 -- ---- what an item was opened from
@@ -303,7 +303,7 @@ handshake-entry s {h} {e} q =
     let b = bind-got (entry s a.next) (λ y m. got (record { timestamp = a.value; entry = y }) m) a.rest in
     let x : b.value ≡ h.entry = ap (λ (h : EntryHandshake). h.entry) (value_of b.rest) in (
       a.next,
-      stable_ends {isCut = any_cut} (stable_vlq tt) s 0 a.value a.next (omega arith) a.answer,
+      stable_ends {is_cut = any_cut} (stable_vlq tt) s 0 a.value a.next (omega arith) a.answer,
       rw (x, end_of_lem b.rest) at b.answer,
     )
 
@@ -322,6 +322,6 @@ module _ (network : Network) (cap : ℕ) (s : List ℕ) where
           record {
             peer = rw (p, z) (entry-given s k at u b h.entry i.end.0 r l);
             same = rw (p, z) (entry-same s k at u b h.entry i.end.0 r l);
-            featureByIndex = rw (p, z) (feature-same s k at u b h.entry i.end.0 r l);
+            feature_by_index = rw (p, z) (feature-same s k at u b h.entry i.end.0 r l);
             readFeatures = rw p (features-same s k at u b h.entry i.end.0 r l);
           }

@@ -9,19 +9,19 @@ use Rattle.wire.specs.AnswerLaws.{no_answer}
 use Rattle.wire.specs.ReaderLaws.{field-got, field_missing}
 use Rattle.wire.specs.Stable.{Beyond, CutTo, kept, own, short, Stable, AtLeast, Local}
 
-cut-ends : {A : Type 0} {isCut : ℕ → Bool} {k : ℕ} {r w : Answer A} → CutTo isCut k r w → (a : A) (e : ℕ) → w ≡ got a e → e ≤ k
+cut-ends : {A : Type 0} {is_cut : ℕ → Bool} {k : ℕ} {r w : Answer A} → CutTo is_cut k r w → (a : A) (e : ℕ) → w ≡ got a e → e ≤ k
 cut-ends (kept {e = e'} h) a e q = let y : e' ≡ e = cc in omega arith
 cut-ends own a e q = no_answer q
 cut-ends (short b t) a e q = no_answer q
 
 -- what is read ends within the bytes
-pub stable_ends : {A : Type 0} {isCut : ℕ → Bool} {p : Reader A} → Stable isCut p → (s : List ℕ) (at : ℕ) (a : A) (e : ℕ)
+pub stable_ends : {A : Type 0} {is_cut : ℕ → Bool} {p : Reader A} → Stable is_cut p → (s : List ℕ) (at : ℕ) (a : A) (e : ℕ)
     → at ≤ length s → p s at ≡ got a e → e ≤ length s
 stable_ends h s at a e g q = cut-ends (h.cut s at (length s) g (omega arith)) a e (rw take-length q)
 
 -- ---- composition
 
-module _ {A B : Type 0} {isCut : ℕ → Bool} (f : A → Reader B) (hf : (a : A) → Stable isCut (f a)) where
+module _ {A B : Type 0} {is_cut : ℕ → Bool} (f : A → Reader B) (hf : (a : A) → Stable is_cut (f a)) where
   bind-moves : (s : List ℕ) (at : ℕ) (r : Answer A) → ((a : A) (e : ℕ) → r ≡ got a e → (at ≤ e) × (e ≤ length s)) → (b : B) (e : ℕ)
       → bind r (λ a next. f a s next) ≡ got b e → at ≤ e
   bind-moves s at (got a d) m b e q =
@@ -39,44 +39,44 @@ module _ {A B : Type 0} {isCut : ℕ → Bool} (f : A → Reader B) (hf : (a : A
   bind_beyond s k (got a d) m h = later_beyond s k a d h (m a d refl) (f a s d) refl
   bind_beyond s k (refused n) m h = tt
 
-  bind-cut : (s : List ℕ) (k : ℕ) → k ≤ length s → {r w : Answer A} → ((a : A) (e : ℕ) → r ≡ got a e → e ≤ length s) → CutTo isCut k r w
-      → CutTo isCut k (bind r (λ a next. f a s next)) (bind w (λ a next. f a (take k s) next))
+  bind-cut : (s : List ℕ) (k : ℕ) → k ≤ length s → {r w : Answer A} → ((a : A) (e : ℕ) → r ≡ got a e → e ≤ length s) → CutTo is_cut k r w
+      → CutTo is_cut k (bind r (λ a next. f a s next)) (bind w (λ a next. f a (take k s) next))
   bind-cut s k h m (kept {a = a} {e = e} u) = (hf a).cut s e k u h
   bind-cut s k h m own = own
   bind-cut s k h m (short {r = r} b t) = short (bind_beyond s k r m b) t
 
-pub stable_then : {A B : Type 0} {isCut : ℕ → Bool} {p : Reader A} {f : A → Reader B} → Stable isCut p → ((a : A) → Stable isCut (f a))
-    → Stable isCut (and_then p f)
+pub stable_then : {A B : Type 0} {is_cut : ℕ → Bool} {p : Reader A} {f : A → Reader B} → Stable is_cut p → ((a : A) → Stable is_cut (f a))
+    → Stable is_cut (and_then p f)
 stable_then {p = p} {f = f} hp hf = record {
   moves = λ s at b e h q. bind-moves f hf s at (p s at) (λ a d r. (hp.moves s at a d h r, stable_ends hp s at a d h r)) b e q;
   cut = λ s at k h u. bind-cut f hf s k u (λ a e q. stable_ends hp s at a e (omega arith) q) (hp.cut s at k h u);
 }
 
-module _ {A : Type 0} {isCut : ℕ → Bool} where
-  pub stable_pure : (a : A) → Stable isCut (pure a)
+module _ {A : Type 0} {is_cut : ℕ → Bool} where
+  pub stable_pure : (a : A) → Stable is_cut (pure a)
   stable_pure a = record { moves = λ s at b e h q. (let y : at ≡ e = cc in omega arith); cut = λ s at k h u. kept h }
 
-  pub stable_refuse : (m : ℕ) → Stable {A = A} isCut (refuse m)
+  pub stable_refuse : (m : ℕ) → Stable {A = A} is_cut (refuse m)
   stable_refuse m = record { moves = λ s at b e h q. no_answer q; cut = λ s at k h u. own }
 
-  pub stable_cond : (b : Bool) {p q : Reader A} → Stable isCut p → Stable isCut q → Stable isCut (cond b p q)
+  pub stable_cond : (b : Bool) {p q : Reader A} → Stable is_cut p → Stable is_cut q → Stable is_cut (cond b p q)
   stable_cond true hp hq = hp
   stable_cond false hp hq = hq
 
-  pub stable_guard : (b : Bool) (m : ℕ) (a : A) → Stable isCut (guard b m a)
+  pub stable_guard : (b : Bool) (m : ℕ) (a : A) → Stable is_cut (guard b m a)
   stable_guard true m a = stable_pure a
   stable_guard false m a = stable_refuse m
 
-  pub stable_fold : (n : ℕ) {p : A → Reader A} → ((a : A) → Stable isCut (p a)) → (a : A) → Stable isCut (fold n p a)
+  pub stable_fold : (n : ℕ) {p : A → Reader A} → ((a : A) → Stable is_cut (p a)) → (a : A) → Stable is_cut (fold n p a)
   unfolding fold
   stable_fold zero h a = stable_pure a
   stable_fold (suc n) h a = stable_then (h a) (λ b. stable_fold n h b)
 
-pub stable_list_of : {A : Type 0} {isCut : ℕ → Bool} (n : ℕ) {p : List A → Reader A} → ((before : List A) → Stable isCut (p before)) → Stable isCut (list_of n p)
+pub stable_list_of : {A : Type 0} {is_cut : ℕ → Bool} (n : ℕ) {p : List A → Reader A} → ((before : List A) → Stable is_cut (p before)) → Stable is_cut (list_of n p)
 unfolding list_of
 stable_list_of n h = stable_fold n (λ before. stable_then (h before) (λ a. stable_pure (before ++ (a ∷ [])))) []
 
-pub stable_place : {isCut : ℕ → Bool} → Stable isCut place
+pub stable_place : {is_cut : ℕ → Bool} → Stable is_cut place
 stable_place = record { moves = λ s at b e h q. (let y : at ≡ e = cc in omega arith); cut = λ s at k h u. kept h }
 
 -- ---- fields
@@ -89,14 +89,14 @@ module _ {A : Type 0} (m n : ℕ) (v : List ℕ → ℕ → A) where
       side (yes g) = let r : got (v s at) (at + n) ≡ got a e = sym (field-got m n v s at g) ∙ q in cc
       side (no g) = no_answer (sym (field_missing m n v s at h (omega arith)) ∙ q)
 
-  pub stable_field : {isCut : ℕ → Bool} → T (isCut m) → Local n v → Stable isCut (field m n v)
-  stable_field {isCut} t l = record {
+  pub stable_field : {is_cut : ℕ → Bool} → T (is_cut m) → Local n v → Stable is_cut (field m n v)
+  stable_field {is_cut} t l = record {
     moves = λ s at a e h q. omega (arith, field_end s at a e h q);
     cut = λ s at k h u. side s at k h u (dec_le (at + n) k) (dec_le (at + n) (length s));
   }
     where
       side : (s : List ℕ) (at k : ℕ) → at ≤ k → k ≤ length s → Dec (at + n ≤ k) → Dec (at + n ≤ length s)
-          → CutTo isCut k (field m n v s at) (field m n v (take k s) at)
+          → CutTo is_cut k (field m n v s at) (field m n v (take k s) at)
       side s at k h u (yes g) x =
           let c : length (take k s) ≡ k = length-take-le k s u in
           rw (field-got m n v s at (omega arith), field-got m n v (take k s) at (omega arith), l.same s at k g u) (kept g)
@@ -120,11 +120,11 @@ local_part : (n : ℕ) → Local {A = Segment} n (λ s at. record { start = at; 
 local_part n = record { same = λ s at k g u. ap {B = Segment} (λ (l : List ℕ). record { start = at; bytes = l }) (take-drop-take n at k s g) }
 
 -- missing bytes are refused with 1 in a handshake, an entry or a body
-module _ {isCut : ℕ → Bool} (one : T (isCut 1)) where
-  pub stable_byte : Stable isCut byte
+module _ {is_cut : ℕ → Bool} (one : T (is_cut 1)) where
+  pub stable_byte : Stable is_cut byte
   stable_byte = stable_field 1 1 (λ s at. get_or s at 0) one (record { same = λ s at k g u. get_or-take k s at 0 (omega arith) })
 
-  pub stable_part : (n : ℕ) → Stable isCut (part n)
+  pub stable_part : (n : ℕ) → Stable is_cut (part n)
   stable_part n = stable_field 1 n (λ s at. record { start = at; bytes = take n (drop at s) }) one (local_part n)
 
 -- ---- how many bytes a reader takes at least
@@ -132,13 +132,13 @@ module _ {isCut : ℕ → Bool} (one : T (isCut 1)) where
 pub least-byte : AtLeast 1 byte
 least-byte = least-field 1 1 (λ s at. get_or s at 0)
 
-pub least-none : {A : Type 0} {isCut : ℕ → Bool} {p : Reader A} → Stable isCut p → AtLeast 0 p
+pub least-none : {A : Type 0} {is_cut : ℕ → Bool} {p : Reader A} → Stable is_cut p → AtLeast 0 p
 least-none h = record { moves = λ s at a e g q. omega (arith, h.moves s at a e g q) }
 
 -- one reader and then another
-pub least_then : {A B : Type 0} {isCut : ℕ → Bool} {p : Reader A} {f : A → Reader B} (m n : ℕ) → Stable isCut p → AtLeast m p
+pub least_then : {A B : Type 0} {is_cut : ℕ → Bool} {p : Reader A} {f : A → Reader B} (m n : ℕ) → Stable is_cut p → AtLeast m p
     → ((a : A) → AtLeast n (f a)) → AtLeast (m + n) (and_then p f)
-least_then {A} {B} {isCut} {p} {f} m n hp lp lf =
+least_then {A} {B} {is_cut} {p} {f} m n hp lp lf =
     record { moves = λ s at b e h q. go s at (p s at) (λ a d r. (lp.moves s at a d h r, stable_ends hp s at a d h r)) b e q }
   where
     go : (s : List ℕ) (at : ℕ) (r : Answer A) → ((a : A) (e : ℕ) → r ≡ got a e → (at + m ≤ e) × (e ≤ length s)) → (b : B) (e : ℕ)

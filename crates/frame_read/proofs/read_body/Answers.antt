@@ -18,9 +18,9 @@ returns-then-s-at c = sym (body_missing c.args.s.now c.args.at c.args.n (omega a
 pub returns-then-not-matches_at : goal.returns-then-not-matches_at
 returns-then-not-matches_at c =
     let e = ap (same_bytes (take 4 (drop c.args.at c.args.s.now))) c.check-check.ensures in
-    sym (body-got c.args.s.now c.args.at c.args.n false (omega arith) (omega arith) (sym (c.matches_at.ensures ∙ e) ∙ not-true _ c.if-not-matches_at.true))
+    sym (body-got c.args.s.now c.args.at c.args.n false (omega arith) (omega arith) (sym (c.matches_at.ensures ∙ e) ∙ c.if-not-matches_at.true))
 
 pub returns : goal.returns
 returns c =
     let e = ap (same_bytes (take 4 (drop c.args.at c.args.s.now))) c.check-check.ensures in
-    sym (body-got c.args.s.now c.args.at c.args.n true (omega arith) (omega arith) (sym (c.matches_at.ensures ∙ e) ∙ not-false _ c.if-not-matches_at.false))
+    sym (body-got c.args.s.now c.args.at c.args.n true (omega arith) (omega arith) (sym (c.matches_at.ensures ∙ e) ∙ c.if-not-matches_at.false))

@@ -29,8 +29,8 @@ overflow_add-result-4 c =
 pub returns : goal.returns
 unfolding mode_feature_bytes session_feature_bytes
 returns c =
-    let blocksToKeep : SFits w32 c.args.config.blocks_to_keep = record { sfits = c.struct_told-1.given.1.1.1.1.0.1 } in
+    let blocks_to_keep : SFits w32 c.args.config.blocks_to_keep = record { sfits = c.struct_told-1.given.1.1.1.1.0.1 } in
     let session : SFits w64 c.args.config.session = record { sfits = c.struct_told-2-1.given.1.1.1.1.1.1.1.1.0.1 } in
-    let m = c.mode_len.ensures.0 c.args.config.state_type_id c.args.config.verifying ∙ ap (λ (x : ℤ). length (feature_bytes (mode_feature_of c.args.config.mode c.args.config.state_type_id c.args.config.verifying x))) (to_z-of_z blocksToKeep) in
+    let m = c.mode_len.ensures.0 c.args.config.state_type_id c.args.config.verifying ∙ ap (λ (x : ℤ). length (feature_bytes (mode_feature_of c.args.config.mode c.args.config.state_type_id c.args.config.verifying x))) (to_z-of_z blocks_to_keep) in
     let s = c.session_len.ensures.0 c.args.config.network ∙ ap (λ (x : ℤ). length (feature_bytes (session_feature_of c.args.config.network x))) (to_z-of_z session) in
     (omega (arith, c.vlq_len.ensures, c.address_len.ensures.0, m, s), omega (arith, m, c.mode_len.ensures.1), omega (arith, s, c.session_len.ensures.1))

@@ -24,11 +24,11 @@ returns-then-name-gt-MAX_SHORT_STRING c = rw (le-leb (length c.args.agent.now) m
 
 pub returns-then-not-is_utf8 : goal.returns-then-not-is_utf8
 unfolding built_size entries_asked sized every short_strings utf8_strings built
-returns-then-not-is_utf8 c = rw (le-leb (length c.args.agent.now) max_short_string c.if-agent-gt-MAX_SHORT_STRING.false, le-leb (length c.args.name.now) max_short_string c.if-name-gt-MAX_SHORT_STRING.false, sym c.is_utf8.ensures ∙ not-true _ c.if-not-is_utf8.true)
+returns-then-not-is_utf8 c = rw (le-leb (length c.args.agent.now) max_short_string c.if-agent-gt-MAX_SHORT_STRING.false, le-leb (length c.args.name.now) max_short_string c.if-name-gt-MAX_SHORT_STRING.false, sym c.is_utf8.ensures ∙ c.if-not-is_utf8.true)
 
 pub returns-then-not-is_utf8-2 : goal.returns-then-not-is_utf8-2
 unfolding built_size entries_asked sized every short_strings utf8_strings built
-returns-then-not-is_utf8-2 c = rw (le-leb (length c.args.agent.now) max_short_string c.if-agent-gt-MAX_SHORT_STRING.false, le-leb (length c.args.name.now) max_short_string c.if-name-gt-MAX_SHORT_STRING.false, sym c.is_utf8.ensures ∙ not-false _ c.if-not-is_utf8.false, sym c.is_utf8-2.ensures ∙ not-true _ c.if-not-is_utf8-2.true)
+returns-then-not-is_utf8-2 c = rw (le-leb (length c.args.agent.now) max_short_string c.if-agent-gt-MAX_SHORT_STRING.false, le-leb (length c.args.name.now) max_short_string c.if-name-gt-MAX_SHORT_STRING.false, sym c.is_utf8.ensures ∙ c.if-not-is_utf8.false, sym c.is_utf8-2.ensures ∙ c.if-not-is_utf8-2.true)
 
 pub build_len-requires : goal.build_len-requires
 build_len-requires c = (c.if-agent-gt-MAX_SHORT_STRING.false, c.if-name-gt-MAX_SHORT_STRING.false)
@@ -38,8 +38,8 @@ returns c =
     let ready : BuildReady c.args.agent.now c.args.name.now = record {
       shortagent = c.if-agent-gt-MAX_SHORT_STRING.false;
       shortname = c.if-name-gt-MAX_SHORT_STRING.false;
-      utfagent = sym c.is_utf8.ensures ∙ not-false _ c.if-not-is_utf8.false;
-      utfname = sym c.is_utf8-2.ensures ∙ not-false _ c.if-not-is_utf8-2.false;
+      utfagent = sym c.is_utf8.ensures ∙ c.if-not-is_utf8.false;
+      utfname = sym c.is_utf8-2.ensures ∙ c.if-not-is_utf8-2.false;
     } in
     let size : c.build_len.result ≡ length (handshake_bytes (built (config_of c.args.config c.args.agent.now c.args.name.now))) =
     omega (arith, c.build_len.ensures.0, length-built c.args.config c.args.agent.now c.args.name.now, length-head c.args.config c.args.agent.now c.args.name.now) in

@@ -11,10 +11,10 @@ use Rattle.handshake_entry_ask.proofs.ask_entries.Goals as goal
 pub returns-then-not-tables_whole : goal.returns-then-not-tables_whole
 returns-then-not-tables_whole c =
     let l = tables c.args.entries.now c.args.features.now c.args.buffer.now in
-    entries_broken l c.args.before (sym (own-whole l) ∙ sym c.tables_whole.ensures ∙ not-true _ c.if-not-tables_whole.true)
+    entries_broken l c.args.before (sym (own-whole l) ∙ sym c.tables_whole.ensures ∙ c.if-not-tables_whole.true)
 
 pub returns : goal.returns
 returns c =
     let l = tables c.args.entries.now c.args.features.now c.args.buffer.now in
     c.ask_body.ensures ∙ ap (body_size c.args.before) c.ask_rows.ensures
-    ∙ entries-whole l c.args.before (sym (own-whole l) ∙ sym c.tables_whole.ensures ∙ not-false _ c.if-not-tables_whole.false)
+    ∙ entries-whole l c.args.before (sym (own-whole l) ∙ sym c.tables_whole.ensures ∙ c.if-not-tables_whole.false)

@@ -15,12 +15,12 @@ loop-k-init c = passed_start _ _ _
 pub returns-then-not-is_inside : goal.returns-then-not-is_inside
 unfolding feature_inside inside
 returns-then-not-is_inside c =
-    passed-not c.loop-k.invariant c.loop-k-test.true (sym c.is_inside.ensures ∙ not-true _ c.if-not-is_inside.true)
+    passed-not c.loop-k.invariant c.loop-k-test.true (sym c.is_inside.ensures ∙ c.if-not-is_inside.true)
     ∙ ap (every _) (rows-from _ _ _)
 
 pub loop-k-preserved : goal.loop-k-preserved
 unfolding feature_inside inside
-loop-k-preserved c = passed-next c.loop-k.invariant c.loop-k-test.true (sym c.is_inside.ensures ∙ not-false _ c.if-not-is_inside.false)
+loop-k-preserved c = passed-next c.loop-k.invariant c.loop-k-test.true (sym c.is_inside.ensures ∙ c.if-not-is_inside.false)
 
 pub returns : goal.returns
 returns c = passed-end c.loop-k.invariant c.loop-k-test.false ∙ ap (every _) (rows-from _ _ _)

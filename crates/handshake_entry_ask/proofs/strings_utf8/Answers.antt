@@ -9,8 +9,8 @@ use Rattle.handshake_entry_ask.proofs.strings_utf8.Goals as goal
 
 pub returns-then-not-is_utf8 : goal.returns-then-not-is_utf8
 unfolding utf8_strings entry_from_row
-returns-then-not-is_utf8 c = rw (ap utf8 (sym c.part_of.ensures) ∙ sym c.is_utf8.ensures ∙ not-true _ c.if-not-is_utf8.true)
+returns-then-not-is_utf8 c = rw (ap utf8 (sym c.part_of.ensures) ∙ sym c.is_utf8.ensures ∙ c.if-not-is_utf8.true)
 
 pub returns : goal.returns
 unfolding utf8_strings entry_from_row
-returns c = rw (ap utf8 (sym c.part_of.ensures) ∙ sym c.is_utf8.ensures ∙ not-false _ c.if-not-is_utf8.false) (c.is_utf8-2.ensures ∙ ap utf8 c.part_of-2.ensures)
+returns c = rw (ap utf8 (sym c.part_of.ensures) ∙ sym c.is_utf8.ensures ∙ c.if-not-is_utf8.false) (c.is_utf8-2.ensures ∙ ap utf8 c.part_of-2.ensures)

@@ -16,13 +16,13 @@ loop-k-init c = (refl, passed_start _ _ _)
 pub returns-then-not-entry_numbers : goal.returns-then-not-entry_numbers
 returns-then-not-entry_numbers c =
     let e = c.entry_at.ensures ∙ row-there _ _ (omega arith) in
-    let h = sym (ap entry_numbers e) ∙ sym c.entry_numbers.ensures ∙ not-true _ c.if-not-entry_numbers.true in
+    let h = sym (ap entry_numbers e) ∙ sym c.entry_numbers.ensures ∙ c.if-not-entry_numbers.true in
     passed-not c.loop-k.invariant.1 (omega arith) h
 
 pub loop-k-preserved : goal.loop-k-preserved
 loop-k-preserved c =
     let e = c.entry_at.ensures ∙ row-there _ _ (omega arith) in
-    let h = sym (ap entry_numbers e) ∙ sym c.entry_numbers.ensures ∙ not-false _ c.if-not-entry_numbers.false in
+    let h = sym (ap entry_numbers e) ∙ sym c.entry_numbers.ensures ∙ c.if-not-entry_numbers.false in
     (c.loop-k.invariant.0, passed-next c.loop-k.invariant.1 (omega arith) h)
 
 pub returns : goal.returns

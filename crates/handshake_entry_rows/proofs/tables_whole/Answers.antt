@@ -15,10 +15,10 @@ returns-then-features-ne0 c = rw (eq-eqb _ _ c.if-entries-ne0.false, ne_eqb _ _ 
 
 pub returns-then-not-every_entry : goal.returns-then-not-every_entry
 unfolding tables_whole whole_rows
-returns-then-not-every_entry c = rw (eq-eqb _ _ c.if-entries-ne0.false, eq-eqb _ _ c.if-features-ne0.false, sym c.every_entry.ensures ∙ not-true _ c.if-not-every_entry.true)
+returns-then-not-every_entry c = rw (eq-eqb _ _ c.if-entries-ne0.false, eq-eqb _ _ c.if-features-ne0.false, sym c.every_entry.ensures ∙ c.if-not-every_entry.true)
 
 pub returns : goal.returns
 unfolding tables_whole whole_rows
 returns c =
-    rw (eq-eqb _ _ c.if-entries-ne0.false, eq-eqb _ _ c.if-features-ne0.false, sym c.every_entry.ensures ∙ not-false _ c.if-not-every_entry.false)
+    rw (eq-eqb _ _ c.if-entries-ne0.false, eq-eqb _ _ c.if-features-ne0.false, sym c.every_entry.ensures ∙ c.if-not-every_entry.false)
     c.every_id.ensures

@@ -16,14 +16,14 @@ returns-then-len-at c = rw (lt-leb _ _ c.if-len-at.true)
 
 pub returns-then-not-ids_inside : goal.returns-then-not-ids_inside
 unfolding ids_written_for asked
-returns-then-not-ids_inside c = rw (le-leb _ _ c.if-len-at.false, sym c.ids_inside.ensures ∙ not-true _ c.if-not-ids_inside.true)
+returns-then-not-ids_inside c = rw (le-leb _ _ c.if-len-at.false, sym c.ids_inside.ensures ∙ c.if-not-ids_inside.true)
 
 pub returns-then-ids-gt-MAX_INV_OBJECTS : goal.returns-then-ids-gt-MAX_INV_OBJECTS
 unfolding ids_written_for asked
 returns-then-ids-gt-MAX_INV_OBJECTS c =
     rw (
       le-leb _ _ c.if-len-at.false,
-      sym c.ids_inside.ensures ∙ not-false _ c.if-not-ids_inside.false,
+      sym c.ids_inside.ensures ∙ c.if-not-ids_inside.false,
       lt-leb (length c.args.ids.now) 400 (omega arith),
     )
 
@@ -31,6 +31,6 @@ pub returns : goal.returns
 unfolding ids_written_for frame_written_for asked
 returns c =
     let place = le-leb _ _ c.if-len-at.false in
-    let inside = sym c.ids_inside.ensures ∙ not-false _ c.if-not-ids_inside.false in
+    let inside = sym c.ids_inside.ensures ∙ c.if-not-ids_inside.false in
     let size = c.ids_len.ensures ∙ sym (length-ids_bytes c.args.modifier-type c.args.ids.now c.args.buffer.now inside) in
     rw (place, inside, le-leb (length c.args.ids.now) 400 (omega arith)) (rw (size, place) at c.ask_frame.ensures)

@@ -19,11 +19,11 @@ returns-then-n-gt-MAX_BODY_SIZE c = rw (le-leb _ _ c.if-len-at.false, lt-leb c.a
 
 pub returns-then-not-is_unknown : goal.returns-then-not-is_unknown
 unfolding unknown_written_for asked
-returns-then-not-is_unknown c = rw (le-leb _ _ c.if-len-at.false, le-leb c.args.n limit (omega arith), sym c.is_unknown.ensures ∙ not-true _ c.if-not-is_unknown.true)
+returns-then-not-is_unknown c = rw (le-leb _ _ c.if-len-at.false, le-leb c.args.n limit (omega arith), sym c.is_unknown.ensures ∙ c.if-not-is_unknown.true)
 
 pub returns : goal.returns
 unfolding unknown_written_for frame_written_for asked
 returns c =
     let place = le-leb _ _ c.if-len-at.false in
     let within = le-leb c.args.n limit (omega arith) in
-    rw (place, within, sym c.is_unknown.ensures ∙ not-false _ c.if-not-is_unknown.false) (rw (place, within) at c.ask_frame.ensures)
+    rw (place, within, sym c.is_unknown.ensures ∙ c.if-not-is_unknown.false) (rw (place, within) at c.ask_frame.ensures)

@@ -15,10 +15,10 @@ pub loop-k-init : goal.loop-k-init
 loop-k-init c = passed_start _ _ _
 
 pub returns-then-not-payload_inside : goal.returns-then-not-payload_inside
-returns-then-not-payload_inside c = passed-not c.loop-k.invariant (omega arith) (sym (rw c.payload_at.ensures at c.payload_inside.ensures) ∙ not-true _ c.if-not-payload_inside.true)
+returns-then-not-payload_inside c = passed-not c.loop-k.invariant (omega arith) (sym (rw c.payload_at.ensures at c.payload_inside.ensures) ∙ c.if-not-payload_inside.true)
 
 pub loop-k-preserved : goal.loop-k-preserved
-loop-k-preserved c = passed-next c.loop-k.invariant (omega arith) (sym (rw c.payload_at.ensures at c.payload_inside.ensures) ∙ not-false _ c.if-not-payload_inside.false)
+loop-k-preserved c = passed-next c.loop-k.invariant (omega arith) (sym (rw c.payload_at.ensures at c.payload_inside.ensures) ∙ c.if-not-payload_inside.false)
 
 pub returns : goal.returns
 returns c = passed-end c.loop-k.invariant (omega arith)

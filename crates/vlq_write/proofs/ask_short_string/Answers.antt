@@ -19,11 +19,11 @@ returns-then-s-gt-MAX_SHORT_STRING c = rw (le-leb _ _ c.if-len-at.false, lt-leb 
 
 pub returns-then-not-is_utf8 : goal.returns-then-not-is_utf8
 unfolding asked
-returns-then-not-is_utf8 c = rw (le-leb _ _ c.if-len-at.false, le-leb (length c.args.s.now) max_short_string (omega arith), sym c.is_utf8.ensures ∙ not-true _ c.if-not-is_utf8.true)
+returns-then-not-is_utf8 c = rw (le-leb _ _ c.if-len-at.false, le-leb (length c.args.s.now) max_short_string (omega arith), sym c.is_utf8.ensures ∙ c.if-not-is_utf8.true)
 
 pub returns : goal.returns
 unfolding asked
 returns c =
     let inside = le-leb _ _ c.if-len-at.false in
-    rw (inside, le-leb (length c.args.s.now) max_short_string (omega arith), sym c.is_utf8.ensures ∙ not-false _ c.if-not-is_utf8.false)
+    rw (inside, le-leb (length c.args.s.now) max_short_string (omega arith), sym c.is_utf8.ensures ∙ c.if-not-is_utf8.false)
     (rw (inside, add-one) at c.ask_room.ensures)

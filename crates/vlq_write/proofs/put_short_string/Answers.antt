@@ -17,7 +17,7 @@ both out at n s h w =
     wrote_then (wrote_byte out at n) (wrote_checked [] [] (set out at n) (at + 1) s w.0 w.1 tt tt (simp length-set (omega arith)))
 
 pub shape_of-out : goal.shape_of-out
-shape_of-out c = wrote_length (both c.args.out.now c.args.at (length c.args.s.now) c.args.s.now (omega arith) c.write_part.ensures)
+shape_of-out c = wrote_length (both c.args.out.now c.args.at (length c.args.s.now) c.args.s.now (omega arith) (c.write_part.ensures.value, c.write_part.ensures.out_after))
 
 pub returns : goal.returns
-returns c = both c.args.out.now c.args.at (length c.args.s.now) c.args.s.now (omega arith) c.write_part.ensures
+returns c = both c.args.out.now c.args.at (length c.args.s.now) c.args.s.now (omega arith) (c.write_part.ensures.value, c.write_part.ensures.out_after)

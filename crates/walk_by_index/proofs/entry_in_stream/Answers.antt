@@ -14,15 +14,15 @@ part-entry-by-index-end c = let w = inside-within _ _ (sym c.before.before.is-in
 
 pub returns-then-not-is_inside : goal.returns-then-not-is_inside
 unfolding entry_in_stream
-returns-then-not-is_inside c = from-outside _ _ _ _ (sym c.is_inside.ensures ∙ not-true _ c.if-not-is_inside.true)
+returns-then-not-is_inside c = from-outside _ _ _ _ (sym c.is_inside.ensures ∙ c.if-not-is_inside.true)
 
 pub overflow_add-to : goal.overflow_add-to
-overflow_add-to c = let w = inside-within _ _ (sym c.is_inside.ensures ∙ not-false _ c.if-not-is_inside.false) in omega (arith, w)
+overflow_add-to c = let w = inside-within _ _ (sym c.is_inside.ensures ∙ c.if-not-is_inside.false) in omega (arith, w)
 
 pub returns-in-Value : goal.returns-in-Value
 unfolding entry_in_stream
 returns-in-Value c =
-    let inside = sym c.is_inside.ensures ∙ not-false _ c.if-not-is_inside.false in
+    let inside = sym c.is_inside.ensures ∙ c.if-not-is_inside.false in
     let z : c.args.body.start.0 + c.args.body.len - c.args.body.start.0 ≡ c.args.body.len = omega arith in
     let read = rw z at (sym c.entry_by_index.ensures ∙ ap peer_entry_answer c.in-Value.is) in
     c.entry_places.ensures ∙ from-got _ _ _ _ inside read
@@ -30,6 +30,6 @@ returns-in-Value c =
 pub returns-in-Refused : goal.returns-in-Refused
 unfolding entry_in_stream
 returns-in-Refused c =
-    let inside = sym c.is_inside.ensures ∙ not-false _ c.if-not-is_inside.false in
+    let inside = sym c.is_inside.ensures ∙ c.if-not-is_inside.false in
     let z : c.args.body.start.0 + c.args.body.len - c.args.body.start.0 ≡ c.args.body.len = omega arith in
     from-refused _ _ _ _ inside (rw z at (sym c.entry_by_index.ensures ∙ ap peer_entry_answer c.in-Refused.is))

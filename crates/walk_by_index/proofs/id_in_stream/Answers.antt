@@ -15,14 +15,14 @@ part-id-by-index-end c = let w = inside-within _ _ (sym c.before.before.is-insid
 
 pub returns-then-not-is_inside : goal.returns-then-not-is_inside
 unfolding id_in_stream
-returns-then-not-is_inside c = from-outside _ _ _ _ (sym c.is_inside.ensures ∙ not-true _ c.if-not-is_inside.true)
+returns-then-not-is_inside c = from-outside _ _ _ _ (sym c.is_inside.ensures ∙ c.if-not-is_inside.true)
 
 pub overflow_add-to : goal.overflow_add-to
-overflow_add-to c = let w = inside-within _ _ (sym c.is_inside.ensures ∙ not-false _ c.if-not-is_inside.false) in omega (arith, w)
+overflow_add-to c = let w = inside-within _ _ (sym c.is_inside.ensures ∙ c.if-not-is_inside.false) in omega (arith, w)
 
 pub returns-in-At : goal.returns-in-At
 returns-in-At c =
-    let inside = sym c.is_inside.ensures ∙ not-false _ c.if-not-is_inside.false in
+    let inside = sym c.is_inside.ensures ∙ c.if-not-is_inside.false in
     let z : c.args.body.start.0 + c.args.body.len - c.args.body.start.0 ≡ c.args.body.len = omega arith in
     let read = rw z at (sym c.id_by_index.ensures ∙ ap id_answer c.in-Value.is) in
     let id = map-got id_of read in
@@ -31,7 +31,7 @@ returns-in-At c =
 pub returns-in-Refused-in_stream : goal.returns-in-Refused-in_stream
 unfolding id_in_stream
 returns-in-Refused-in_stream c =
-    let inside = sym c.is_inside.ensures ∙ not-false _ c.if-not-is_inside.false in
+    let inside = sym c.is_inside.ensures ∙ c.if-not-is_inside.false in
     let z : c.args.body.start.0 + c.args.body.len - c.args.body.start.0 ≡ c.args.body.len = omega arith in
     let read = rw z at (sym c.id_by_index.ensures ∙ ap id_answer c.in-Value.is) in
     id-refused _ _ _ (sym c.in_stream.ensures ∙ c.in-Refused-in_stream.is) ∙ from-got _ _ _ _ inside read
@@ -39,6 +39,6 @@ returns-in-Refused-in_stream c =
 pub returns-in-Refused : goal.returns-in-Refused
 unfolding id_in_stream
 returns-in-Refused c =
-    let inside = sym c.is_inside.ensures ∙ not-false _ c.if-not-is_inside.false in
+    let inside = sym c.is_inside.ensures ∙ c.if-not-is_inside.false in
     let z : c.args.body.start.0 + c.args.body.len - c.args.body.start.0 ≡ c.args.body.len = omega arith in
     from-refused _ _ _ _ inside (rw z at (sym c.id_by_index.ensures ∙ ap id_answer c.in-Refused.is))

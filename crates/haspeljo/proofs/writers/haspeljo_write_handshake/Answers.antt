@@ -4,4 +4,4 @@ use Rattle.haspeljo.proofs.ExportLaws.{writer_leaves}
 use Rattle.haspeljo.proofs.writers.haspeljo_write_handshake.Goals as goal
 
 pub returns : goal.returns
-returns c = writer_leaves _ _ (c.write_handshake-w.ensures.value, c.write_handshake-w.ensures.out_after) c.written_result.ensures
+returns c = writer_leaves _ _ (c.write_handshake-w.ensures.value, c.write_handshake-w.ensures.out_after) (c.written_result.ensures.value, c.written_result.ensures.r_after)
