@@ -1,1 +1,4 @@
 pub mod RowTests
+pub mod BogusLaws
+pub mod Cases
+pub mod IntervalLaws

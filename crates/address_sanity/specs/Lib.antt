@@ -1,5 +1,2 @@
 pub mod Ranges
 pub mod Bogus
-pub mod BogusLaws
-pub mod IntervalLaws
-pub mod Cases

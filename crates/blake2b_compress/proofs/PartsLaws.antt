@@ -2,7 +2,7 @@
 use Rattle.std.proofs.Common.{◌≡◌, ℕ, ◌+◌, ◌%◌, ◌^◌, Bool, List, length, set, sym, refl, ap, ◌∙◌, arith, length-set}
 use Rattle.blake2b.specs.Blake2b.{w, r, R1, R2, R3, R4, ◌⊕◌, ◌>>>◌, ◌!◌, for, G, round, F}
 use Rattle.blake2b_compress.specs.Parts.{half_columns, half_diagonals, add_words, half_start, half_end, selected, on_columns, on_diagonals, four, work, xored}
-use Rattle.blake2b.specs.ElementsLaws.{elements, whole}
+use Rattle.blake2b.proofs.ElementsLaws.{elements, whole}
 
 -- what holds of n words that are written out holds of a list of n words
 same-words : (n : ℕ) (f g : List ℕ → List ℕ) → ((v : List ℕ) → f (elements v 0 n) ≡ g (elements v 0 n)) → (v : List ℕ) → length v ≡ n → f v ≡ g v

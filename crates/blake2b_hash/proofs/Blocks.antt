@@ -3,7 +3,7 @@ use Rattle.std.proofs.Common.{◌≡◌, ℕ, zero, suc, ◌+◌, ◌*◌, ◌/�
 use native.Mathlib.Nat.{div-div-eq-div-mul}
 use lib.ListN.{get_or-append}
 use Rattle.blake2b.specs.Blake2b.{◌!◌, word, bytes, words, unwords}
-use Rattle.blake2b.specs.CheckLaws.{length-bytes}
+use Rattle.blake2b.proofs.CheckLaws.{length-bytes}
 
 -- a word of one byte
 pub word-one : (s : List ℕ) (at : ℕ) → at < length s → word (take 1 (drop at s)) ≡ s ! at

@@ -3,7 +3,7 @@ use Rattle.std.proofs.Common.{◌≡◌, ℕ, ◌+◌, ◌-◌, ◌*◌, ◌/◌
 use lib.Pow.{mod-pow-add}
 use Rattle.blake2b_hash.specs.declared.Hash.{Hash}
 use Rattle.blake2b.specs.Blake2b.{w, bb, ll_bound, words, F}
-use Rattle.blake2b.specs.Blake2bLaws.{d-padded}
+use Rattle.blake2b.proofs.Blake2bLaws.{d-padded}
 use Rattle.blake2b_hash.specs.Running.{hash, counted, advanced, ended}
 
 -- the low word, and the high word with the carry

@@ -6,7 +6,7 @@ use Rattle.std.proofs.Math.Path.{ap}
 use Rattle.std.proofs.Common.{ap₂, sym, ◌∙◌, ⊎_elim, add-zero, add-suc, mod-eq_of_lt, arith, length-drop, drop-drop}
 use Rattle.blake2b_hash.specs.declared.Hash.{Hash}
 use Rattle.blake2b.specs.Blake2b.{w, bb, ll_bound, for, words, unwords, F, dd, d, h0, blake2b}
-use Rattle.blake2b.specs.Blake2bLaws.{words_take, d-whole, dd-before}
+use Rattle.blake2b.proofs.Blake2bLaws.{words_take, d-whole, dd-before}
 use Rattle.blake2b_hash.specs.Running.{hash, counted, started, advanced, stepped, absorbed, ended, finished, run}
 
 -- ---- from the start of the input

@@ -139,9 +139,3 @@ cases =
 unfoldable pub EachAgrees : List Case → Type 0
 EachAgrees [] = Unit {0}
 EachAgrees (c ∷ cs) = (c.gives ≡ c.says) × EachAgrees cs
-
-pub all-cases : EachAgrees cases
-unfolding EachAgrees cases groups vlq vlq_length vlq_in vlq_bytes zigzag_encode zigzag_decode string short_string lead_rows lead_in lead_of utf8_from utf8
-    version address_of address address_if entry big_endian big_endian_from fold list_of nipopow mode_feature
-    then_by below first_feature other_magic validate_peer count inventory_header ids message always_v4 mainnet_v4 contains some_contains bogus map_answer
-all-cases = (refl, (refl, (refl, (refl, (refl, (refl, (refl, (refl, (refl, (refl, (refl, (refl, (refl, (refl, (refl, (refl, (refl, (refl, (refl, (refl, (refl, (refl, (refl, (refl, (refl, (refl, (refl, (refl, (refl, (refl, (refl, (refl, (refl, (refl, tt))))))))))))))))))))))))))))))))))

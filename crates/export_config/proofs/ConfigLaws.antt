@@ -5,7 +5,7 @@ use mathlib.Core.Path.{◌≡◌, ap}
 use borrow.Author.Tests.{ltb-true}
 use lib.Dec.{eqb, ltb}
 use lib.IntN.{ℤ}
-use Rattle.wire.specs.BytesLaws.{and-true}
+use Rattle.wire.proofs.BytesLaws.{and-true}
 use Rattle.types.specs.declared.Network.{Network}
 use Rattle.types.specs.declared.ProxyMode.{ProxyMode}
 use Rattle.types.specs.declared.Version.{Version}

@@ -1,1 +1,3 @@
 pub mod ConfigLaws
+pub mod Cases
+pub mod ConfigsLaws

@@ -1,3 +1,1 @@
 pub mod Configs
-pub mod ConfigsLaws
-pub mod Cases

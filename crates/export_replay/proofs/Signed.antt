@@ -11,7 +11,7 @@ use mir.Facts.{sfits_widen}
 use mir.Syntax.{w32, w64}
 use mir.Val.{Fits, SFits, to_z, of_z}
 use mir.ValLaws.{to_z_pos, to_z-of_z}
-use Rattle.vlq_zigzag.specs.WidthLaws.{minus_below}
+use Rattle.vlq_zigzag.proofs.WidthLaws.{minus_below}
 
 pub widens : (n : ℤ) → SFits w32 n → SFits w64 (to_z w32 (of_z w32 n))
 widens n f = rw (to_z-of_z w32 n f) (sfits_widen tt f)

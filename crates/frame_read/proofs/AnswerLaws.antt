@@ -8,7 +8,7 @@ use lib.ListN.{length, get_or, take, drop}
 use borrow.Author.Tests.{le-leb, lt-leb}
 use Rattle.wire.specs.Bytes.{big_endian, same_bytes}
 use Rattle.wire.specs.Reader.{got, refused, bind, map_answer}
-use Rattle.wire.specs.ReaderLaws.{field-got, field_missing, field-outside, length_part, map-got, map-refused}
+use Rattle.wire.proofs.ReaderLaws.{field-got, field_missing, field-outside, length_part, map-got, map-refused}
 use Rattle.vlq.specs.Vlq.{limit}
 use Rattle.blake2b.specs.Blake2b.{check}
 use Rattle.types.specs.declared.Network.{Network}

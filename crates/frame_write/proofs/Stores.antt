@@ -6,7 +6,7 @@ use mathlib.Core.Path.{◌≡◌, refl}
 use lib.ListN.{length, get_or, set}
 use Rattle.wire.specs.Bytes.{big_endian_bytes}
 use Rattle.wire.specs.Output.{put, Wrote}
-use Rattle.wire.specs.OutputLaws.{wrote_byte, wrote_then}
+use Rattle.wire.proofs.OutputLaws.{wrote_byte, wrote_then}
 use Rattle.types.specs.declared.Network.{Network}
 use Rattle.types.specs.Magic.{magic_of}
 use Rattle.frame_write.specs.FrameWriteLaws.{header_bytes}

@@ -7,21 +7,21 @@ use Rattle.std.proofs.Math.Path.{ap}
 use Rattle.std.proofs.Math.ListN.{length, length-append}
 use borrow.Author.Tests.{le-leb, leb-true}
 use Rattle.wire.specs.Bytes.{big_endian_bytes}
-use Rattle.wire.specs.BytesLaws.{length-big_endian_bytes}
+use Rattle.wire.proofs.BytesLaws.{length-big_endian_bytes}
 use Rattle.wire.specs.declared.Written.{Written}
 use Rattle.wire.specs.declared.Written.TheVariants.{To}
 use Rattle.wire.specs.Output.{put, asked, written, output_after, Wrote}
-use Rattle.wire.specs.OutputLaws.{put-here, wrote_then, wrote_length, wrote_checked, asked-to}
-use Rattle.wire.specs.StandingLaws.{put_standing, put-over, after_none}
-use Rattle.wire.specs.ReaderLaws.{length_part}
+use Rattle.wire.proofs.OutputLaws.{put-here, wrote_then, wrote_length, wrote_checked, asked-to}
+use Rattle.wire.proofs.StandingLaws.{put_standing, put-over, after_none}
+use Rattle.wire.proofs.ReaderLaws.{length_part}
 use Rattle.vlq.specs.Vlq.{limit}
 use Rattle.blake2b.specs.Blake2b.{check}
-use Rattle.blake2b.specs.CheckLaws.{length-check}
+use Rattle.blake2b.proofs.CheckLaws.{length-check}
 use Rattle.types.specs.declared.Network.{Network}
 use Rattle.types.specs.Magic.{magic_of}
-use Rattle.types.specs.MagicLaws.{length-magic}
+use Rattle.types.proofs.MagicLaws.{length-magic}
 use Rattle.frame.specs.Frame.{checked_bytes, frame_bytes}
-use Rattle.frame.specs.FrameLaws.{body_start, length-frame_bytes}
+use Rattle.frame.proofs.FrameLaws.{body_start, length-frame_bytes}
 use Rattle.frame.specs.Writes.{frame_written}
 use Rattle.frame_write.specs.Asked.{frame_length, frame_written_for}
 

@@ -9,7 +9,7 @@ use borrow.Author.Tests.{ne_eqb}
 use Rattle.wire.specs.Bytes.{big_endian}
 use Rattle.wire.specs.declared.Part.{Part}
 use Rattle.wire.specs.Reader.{got, Segment, part, part_of}
-use Rattle.wire.specs.ReaderLaws.{part_at}
+use Rattle.wire.proofs.ReaderLaws.{part_at}
 use Rattle.types.specs.declared.Address.{Address}
 use Rattle.types.specs.declared.Address.TheVariants.{None, V4, V6}
 use Rattle.handshake.specs.Entry.{address_of}

@@ -2,7 +2,7 @@
 use Rattle.std.specs.Prelude.{ℕ, ◌+◌, ◌++◌, ◌≡◌, length}
 use Rattle.std.proofs.Common.{arith, length-append}
 use Rattle.wire.specs.Bytes.{big_endian_bytes}
-use Rattle.wire.specs.BytesLaws.{length-big_endian_bytes}
+use Rattle.wire.proofs.BytesLaws.{length-big_endian_bytes}
 use Rattle.vlq.specs.Vlq.{vlq_bytes}
 use Rattle.types.specs.declared.Address.TheVariants.{V4, V6}
 use Rattle.handshake.specs.Value.{address_bytes}

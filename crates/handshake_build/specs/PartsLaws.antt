@@ -10,9 +10,9 @@ use Rattle.std.proofs.Math.Dec.{leb}
 use Rattle.std.proofs.Math.ListN.{length-append}
 use borrow.Author.Tests.{le-leb, leb-true}
 use Rattle.wire.specs.Bytes.{every}
-use Rattle.wire.specs.BytesLaws.{and-true}
+use Rattle.wire.proofs.BytesLaws.{and-true}
 use Rattle.wire.specs.Output.{Question, sized, written, output_after, Wrote}
-use Rattle.wire.specs.OutputLaws.{AllHold, wrote_checked}
+use Rattle.wire.proofs.OutputLaws.{AllHold, wrote_checked}
 use Rattle.wire.specs.declared.Written.{Written}
 use Rattle.wire.specs.declared.Size.TheVariants.{Bytes}
 use Rattle.vlq_utf8.specs.Utf8.{utf8}

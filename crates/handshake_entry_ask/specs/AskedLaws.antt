@@ -5,18 +5,18 @@ use mathlib.Core.List.{List, [], ◌∷◌, ◌++◌, map, flat_map, append-nil,
 use Rattle.std.proofs.Math.ListN.{length-append}
 use borrow.Author.Tests.{lt-ltb, le-ltb, lt-leb}
 use Rattle.wire.specs.Bytes.{every}
-use Rattle.wire.specs.BytesLaws.{every_append, flat_map_append}
+use Rattle.wire.proofs.BytesLaws.{every_append, flat_map_append}
 use Rattle.wire.specs.Numbers.{lt-or_ge}
 use Rattle.wire.specs.Output.{Question, ask, sized}
 use Rattle.wire.specs.Earliest.{together, twice, fresh, distinct}
-use Rattle.wire.specs.EarliestLaws.{earliest}
+use Rattle.wire.proofs.EarliestLaws.{earliest}
 use Rattle.wire.specs.declared.Size.{Size}
 use Rattle.wire.specs.declared.Size.TheVariants.{Bytes, Refused}
 use Rattle.vlq.specs.Vlq.{limit}
 use Rattle.handshake.specs.declared.EntryRow.{EntryRow}
 use Rattle.handshake.specs.Value.{entry_bytes, short_strings, utf8_strings, few_features, lengths_within, entries_asked}
 use Rattle.handshake.specs.Tables.{Tables, rows, entry_row, entry_rows, entry_from_row, entries_of, tables_whole, entry_inside}
-use Rattle.handshake.specs.RowsLaws.{rows_last}
+use Rattle.handshake.proofs.RowsLaws.{rows_last}
 use Rattle.handshake.specs.Writes.{row_inside}
 use Rattle.handshake_entry_rows.specs.ValueLaws.{own-entry, own-inside}
 use Rattle.handshake_entry_ask.specs.Asked.{row_size, entry_size, entries_size, size_of, row_numbers, counted_to_limit, body_size}

@@ -6,7 +6,7 @@ use Rattle.std.proofs.Common.{sym, ap, ◌∙◌}
 use Rattle.std.proofs.Math.ListN.{length, length-append, length-map}
 use borrow.Author.Tests.{ne_eqb}
 use Rattle.wire.specs.Bytes.{big_endian_bytes, every}
-use Rattle.wire.specs.BytesLaws.{length-big_endian_bytes, every_map}
+use Rattle.wire.proofs.BytesLaws.{length-big_endian_bytes, every_map}
 use Rattle.vlq.specs.Vlq.{limit, vlq_bytes}
 use Rattle.vlq.specs.ShortString.{short_string_bytes}
 use Rattle.handshake.specs.declared.FeatureRow.{FeatureRow}
@@ -14,7 +14,7 @@ use Rattle.handshake.specs.declared.EntryRow.{EntryRow}
 use Rattle.handshake.specs.Entry.{address_of}
 use Rattle.handshake.specs.Value.{feature_bytes, version_bytes, address_bytes, entry_bytes, lengths_within}
 use Rattle.handshake.specs.Tables.{Tables, tables, rows, feature_row, own_rows, bytes_at, feature_from_row, entry_from_row}
-use Rattle.handshake.specs.RowsLaws.{length-rows, rows-from}
+use Rattle.handshake.proofs.RowsLaws.{length-rows, rows-from}
 use Rattle.handshake_entry_ask.specs.Asked.{head_bytes}
 
 -- ---- an address

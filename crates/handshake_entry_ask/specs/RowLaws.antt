@@ -5,14 +5,14 @@ use Rattle.std.proofs.Math.Path.{sym}
 use Rattle.std.proofs.Math.ListN.{length}
 use borrow.Author.Tests.{leb-true, le-leb, lt-leb}
 use Rattle.wire.specs.Bytes.{every}
-use Rattle.wire.specs.BytesLaws.{and-true}
+use Rattle.wire.proofs.BytesLaws.{and-true}
 use Rattle.wire.specs.Output.{ask, sized}
 use Rattle.wire.specs.declared.Size.{Size}
 use Rattle.wire.specs.declared.Size.TheVariants.{Refused}
 use Rattle.handshake.specs.declared.EntryRow.{EntryRow}
 use Rattle.handshake.specs.Value.{entry_bytes, short_strings, utf8_strings, lengths_within, entries_asked}
 use Rattle.handshake.specs.Tables.{Tables, tables, bytes_at, entry_from_row, entry_inside}
-use Rattle.handshake.specs.TablesLaws.{length-bytes_at, parts_inside}
+use Rattle.handshake.proofs.TablesLaws.{length-bytes_at, parts_inside}
 use Rattle.handshake_entry_rows.specs.ValueLaws.{own-short, own-utf8, few-count}
 use Rattle.handshake_entry_ask.specs.Asked.{row_size}
 use Rattle.handshake_entry_ask.specs.AskedLaws.{and_right}

@@ -8,8 +8,8 @@ use Rattle.wire.specs.Bytes.{every}
 use Rattle.handshake.specs.declared.EntryRow.{EntryRow}
 use Rattle.handshake.specs.Value.{short_strings, utf8_strings, few_features}
 use Rattle.handshake.specs.Tables.{Tables, tables, rows, entry_row, feature_row, own_rows, feature_from_row, entry_from_row, tables_whole, inside, feature_inside, entry_inside}
-use Rattle.handshake.specs.TablesLaws.{every_row_lem, parts_inside}
-use Rattle.handshake.specs.RowsLaws.{length-rows}
+use Rattle.handshake.proofs.TablesLaws.{every_row_lem, parts_inside}
+use Rattle.handshake.proofs.RowsLaws.{length-rows}
 use Rattle.handshake_entry_rows.specs.Row.{row_or_zeros}
 
 pub row-there : (t : List ℕ) (k : ℕ) → k < length t / 12 → row_or_zeros t k ≡ entry_row t k

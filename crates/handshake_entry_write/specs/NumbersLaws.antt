@@ -2,14 +2,14 @@
 use Rattle.std.specs.Prelude.{ℕ, suc, ◌+◌, ◌-◌, ◌≤◌, ◌<◌, true, ◌||◌, List, [], ◌∷◌, ◌++◌, ◌≡◌, refl, eqb, leb, length, get_or, drop}
 use Rattle.std.proofs.Common.{arith, ⊎_elim, ap, length-append, ltb-true, lt-ltb, leb-true, ne_eqb}
 use Rattle.wire.specs.Bytes.{every}
-use Rattle.wire.specs.BytesLaws.{is_byte, every_take, every_drop}
+use Rattle.wire.proofs.BytesLaws.{is_byte, every_take, every_drop}
 use Rattle.handshake.specs.declared.EntryRow.{EntryRow}
 use Rattle.handshake.specs.declared.FeatureRow.{FeatureRow}
 use Rattle.handshake.specs.Entry.{address_of}
-use Rattle.handshake.specs.AddressLaws.{address_bytes-of}
+use Rattle.handshake.proofs.AddressLaws.{address_bytes-of}
 use Rattle.handshake.specs.Value.{address_bytes}
 use Rattle.handshake.specs.Tables.{bytes_at, feature_numbers, entry_numbers, inside}
-use Rattle.handshake.specs.TablesLaws.{length-bytes_at, numbers_of}
+use Rattle.handshake.proofs.TablesLaws.{length-bytes_at, numbers_of}
 use Rattle.vlq.specs.Vlq.{vlq_bytes}
 
 -- the elements of a slice of bytes

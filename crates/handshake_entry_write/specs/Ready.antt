@@ -2,7 +2,7 @@
 -- Only for laws, proofs and private functions: no public contract and no theorem cites what follows.
 use Rattle.std.specs.Prelude.{◌≤◌, true, ◌≡◌}
 use Rattle.wire.specs.Bytes.{every}
-use Rattle.wire.specs.OutputLaws.{AllHold}
+use Rattle.wire.proofs.OutputLaws.{AllHold}
 use Rattle.handshake.specs.declared.EntryRow.{EntryRow}
 use Rattle.handshake.specs.Value.{short_strings, entries_asked}
 use Rattle.handshake.specs.Tables.{Tables, own_rows, entry_rows, entry_from_row, entries_of, feature_numbers, entry_numbers, tables_whole, entry_inside}

@@ -5,12 +5,12 @@ use Rattle.std.proofs.Math.Bool.{true}
 use Rattle.std.proofs.Math.Path.{sym}
 use borrow.Author.Tests.{leb-true, ltb-true, lt-ltb}
 use Rattle.wire.specs.Bytes.{every}
-use Rattle.wire.specs.BytesLaws.{and-true, every_map}
-use Rattle.wire.specs.OutputLaws.{AllHold}
+use Rattle.wire.proofs.BytesLaws.{and-true, every_map}
+use Rattle.wire.proofs.OutputLaws.{AllHold}
 use Rattle.handshake.specs.Value.{EntryValue, short_strings, utf8_strings, few_features, lengths_within, entries_asked}
 use Rattle.handshake.specs.Tables.{Tables, tables, feature_row, entry_row, entry_rows, entry_from_row, entries_of, feature_numbers, tables_whole, entry_inside}
-use Rattle.handshake.specs.TablesLaws.{every_row_lem, row_numbers_lem, row_inside_lem, whole-features, own_range}
-use Rattle.handshake.specs.RowsLaws.{every-rows}
+use Rattle.handshake.proofs.TablesLaws.{every_row_lem, row_numbers_lem, row_inside_lem, whole-features, own_range}
+use Rattle.handshake.proofs.RowsLaws.{every-rows}
 use Rattle.handshake.specs.Writes.{entry_at_row, row_inside, row_asked}
 use Rattle.handshake_entry_rows.specs.ValueLaws.{own-entry, length-features}
 use Rattle.handshake_entry_write.specs.Ready.{Ready}

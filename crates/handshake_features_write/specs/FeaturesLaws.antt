@@ -4,7 +4,7 @@ use Rattle.std.proofs.Common.{arith, sym, ◌∙◌, length-append}
 use mathlib.Core.List.{List, [], ◌∷◌, ◌++◌}
 use Rattle.std.proofs.Math.Path.{refl, ap}
 use Rattle.vlq.specs.Vlq.{vlq_bytes}
-use Rattle.vlq.specs.VlqLaws.{vlq-last, vlq_ten}
+use Rattle.vlq.proofs.VlqLaws.{vlq-last, vlq_ten}
 use Rattle.vlq_zigzag.specs.Zigzag.{zigzag_encode}
 use Rattle.types.specs.Magic.{magic_of}
 use Rattle.types.specs.declared.Network.{Network}

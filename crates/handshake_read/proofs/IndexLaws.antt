@@ -5,12 +5,12 @@ use mathlib.Core.List.{List}
 use mathlib.Core.Path.{◌≡◌, ap, sym, ◌∙◌}
 use lib.ListN.{length}
 use Rattle.wire.specs.Reader.{got, refused, list_of}
-use Rattle.wire.specs.AnswerLaws.{no_answer, end_of_lem}
-use Rattle.wire.specs.ListOfLaws.{indexed}
+use Rattle.wire.proofs.AnswerLaws.{no_answer, end_of_lem}
+use Rattle.wire.proofs.ListOfLaws.{indexed}
 use Rattle.handshake.specs.Entry.{EntryFeature, feature, Entry, entry}
 use Rattle.handshake_read.specs.declared.PeerSpec.{PeerSpec}
 use Rattle.handshake_read.specs.Parts.{feature_at}
-use Rattle.handshake_read.specs.PartsLaws.{entry_listed, nth-indexed, nth-outside}
+use Rattle.handshake_read.proofs.PartsLaws.{entry_listed, nth-indexed, nth-outside}
 use Rattle.handshake_read.specs.Answers.{peer_spec_of}
 
 module _ (k : ℕ) (s : List ℕ) (at : ℕ) {e : Entry} {next : ℕ} {p : PeerSpec} (q : entry s at ≡ got e next) (h : peer_spec_of e ≡ p) where

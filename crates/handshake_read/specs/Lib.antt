@@ -1,7 +1,3 @@
 pub mod Parts
-pub mod PartsLaws
 pub mod Answers
-pub mod AnswerLaws
 pub mod Values
-pub mod ValuesLaws
-pub mod Cases

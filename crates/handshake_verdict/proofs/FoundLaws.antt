@@ -13,7 +13,7 @@ use Rattle.wire.specs.Bytes.{Each, more}
 use Rattle.wire.specs.Reader.{Answer, got, refused}
 use Rattle.wire.specs.ReadsBack.{Placed}
 use Rattle.handshake.specs.Entry.{EntryFeature, feature}
-use Rattle.handshake.specs.PlacesLaws.{gives-feature}
+use Rattle.handshake.proofs.PlacesLaws.{gives-feature}
 use Rattle.handshake.specs.Verdict.{first_feature}
 use Rattle.handshake_read.specs.Answers.{feature_of}
 use Rattle.handshake_read.specs.declared.Feature.{Feature}

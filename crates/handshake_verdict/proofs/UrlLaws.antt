@@ -8,8 +8,8 @@ use mathlib.Core.Path.{◌≡◌}
 use lib.ListN.{length, take, drop}
 use Rattle.wire.specs.declared.Part.{Part}
 use Rattle.wire.specs.Reader.{got, refused, and_then, Segment, byte, part, guard}
-use Rattle.wire.specs.AnswerLaws.{no_answer, bind-got}
-use Rattle.wire.specs.ReaderLaws.{length_part, part_at}
+use Rattle.wire.proofs.AnswerLaws.{no_answer, bind-got}
+use Rattle.wire.proofs.ReaderLaws.{length_part, part_at}
 use Rattle.vlq_utf8.specs.Utf8.{utf8}
 use Rattle.vlq.specs.ShortString.{string, short_string}
 use Rattle.handshake.specs.Entry.{Entry}

@@ -8,7 +8,7 @@ use lib.ListN.{length, take, drop}
 use lib.Seq.{take-take}
 use borrow.Author.Tests.{le-leb, lt-leb}
 use Rattle.wire.specs.Bytes.{same_bytes}
-use Rattle.wire.specs.ReaderLaws.{length_part}
+use Rattle.wire.proofs.ReaderLaws.{length_part}
 use Rattle.types.specs.declared.Version.{Version}
 use Rattle.types.specs.declared.Network.{Network}
 use Rattle.types.specs.Magic.{magic_of}

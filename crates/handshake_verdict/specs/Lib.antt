@@ -1,4 +1,2 @@
 pub mod Answers
 pub mod Peer
-pub mod PeerLaws
-pub mod Cases

@@ -4,8 +4,8 @@ use Rattle.std.proofs.Common.{arith, sym, ap, ◌∙◌}
 use Rattle.std.proofs.Math.ListN.{length, length-append}
 use borrow.Author.Tests.{leb-true, leb-false, le-leb, lt-leb}
 use Rattle.wire.specs.Output.{put, Question, asked, written, output_after}
-use Rattle.wire.specs.OutputLaws.{in_order_lem, written-accepted, wrote_length, wrote_to, wrote_checked, wrote_refused}
-use Rattle.wire.specs.StandingLaws.{put-behind, after-put, after-refused}
+use Rattle.wire.proofs.OutputLaws.{in_order_lem, written-accepted, wrote_length, wrote_to, wrote_checked, wrote_refused}
+use Rattle.wire.proofs.StandingLaws.{put-behind, after-put, after-refused}
 use Rattle.wire.specs.declared.Written.{Written}
 use Rattle.wire.specs.declared.Written.TheVariants.{To, Refused}
 use Rattle.handshake.specs.Value.{EntryValue, entry_bytes}

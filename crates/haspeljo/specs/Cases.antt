@@ -21,7 +21,7 @@ use Rattle.handshake_build.specs.declared.Config.{Config}
 use Rattle.handshake_build.specs.Parts.{config_of}
 use Rattle.frame_read.specs.declared.Frame.{Frame}
 use Rattle.export_arrays.specs.Networks.{network_of}
-use Rattle.export_config.specs.Cases.{Case, case, config}
+use Rattle.export_config.proofs.Cases.{Case, case, config}
 use Rattle.export_config.specs.Configs.{is_set, mode_of, address_from, address_numbers}
 use Rattle.haspeljo.specs.Results.{number_of, array_after, value_next, part_next, written_number, end_after, bit}
 use Rattle.haspeljo.specs.Frames.{frame_next}

@@ -1,12 +1,6 @@
 pub mod Message
 pub mod Value
-pub mod MessageLaws
 pub mod Places
-pub mod PlacesLaws
-pub mod Cases
 pub mod Writes
-pub mod WritesLaws
 pub mod WriterOrder
-pub mod OrderCases
 pub mod Bogus
-pub mod BogusLaws

@@ -6,7 +6,7 @@ use Rattle.std.specs.Prelude.{ℕ, ◌+◌, false, List, [], ◌∷◌, ◌++◌
 use Rattle.std.proofs.Math.Path.{refl}
 use Rattle.wire.specs.Bytes.{every}
 use Rattle.wire.specs.Output.{Question, ask, asked, written}
-use Rattle.wire.specs.OutputLaws.{AllHold}
+use Rattle.wire.proofs.OutputLaws.{AllHold}
 use Rattle.wire.specs.declared.Written.{Written}
 use Rattle.wire.specs.declared.Written.TheVariants.{To, Refused}
 use Rattle.vlq.specs.Vlq.{limit}

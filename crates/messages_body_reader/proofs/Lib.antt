@@ -1,3 +1,4 @@
 pub mod Beside
 pub mod ReadWalk
 pub mod ReadCall
+pub mod HeaderLaws

@@ -7,12 +7,12 @@ use mathlib.Core.Path.{◌≡◌, sym, ◌∙◌}
 use lib.ListN.{length}
 use Rattle.wire.specs.Numbers.{lt-or_ge}
 use Rattle.wire.specs.Reader.{got, Segment, part, list_of, map_answer}
-use Rattle.wire.specs.AnswerLaws.{no_answer}
-use Rattle.wire.specs.ReaderLaws.{part-got, map-value}
-use Rattle.wire.specs.ListOfLaws.{listed}
+use Rattle.wire.proofs.AnswerLaws.{no_answer}
+use Rattle.wire.proofs.ReaderLaws.{part-got, map-value}
+use Rattle.wire.proofs.ListOfLaws.{listed}
 use Rattle.messages_inventory_read.specs.Parts.{Items, items, items_start, id_at}
-use Rattle.messages_inventory_read.specs.PartsLaws.{header-ends, items-read, ids-there, ids_missing}
-use Rattle.messages_inventory_read.specs.ItemsLaws.{number, first, item-after}
+use Rattle.messages_inventory_read.proofs.PartsLaws.{header-ends, items-read, ids-there, ids_missing}
+use Rattle.messages_inventory_read.proofs.ItemsLaws.{number, first, item-after}
 use Rattle.messages_inventory_read.specs.Answers.{inventory_in, id_of}
 use Rattle.messages_inventory_read.specs.declared.Inventory.{Inventory}
 

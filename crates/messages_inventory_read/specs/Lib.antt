@@ -1,7 +1,3 @@
 pub mod Parts
 pub mod Answers
-pub mod PartsLaws
-pub mod ItemsLaws
 pub mod Values
-pub mod ValuesLaws
-pub mod Cases

@@ -8,10 +8,10 @@ use lib.ListN.{length, get_or}
 use borrow.Author.Tests.{leb-true}
 use Rattle.wire.specs.declared.Written.{Written}
 use Rattle.wire.specs.Output.{written, output_after, Wrote}
-use Rattle.wire.specs.OutputLaws.{wrote_checked}
-use Rattle.wire.specs.ReaderLaws.{length_part}
+use Rattle.wire.proofs.OutputLaws.{wrote_checked}
+use Rattle.wire.proofs.ReaderLaws.{length_part}
 use Rattle.handshake.specs.Tables.{bytes_at}
-use Rattle.handshake.specs.PuttingLaws.{Putting, putting_passed, putting_room, putting_turn}
+use Rattle.handshake.proofs.PuttingLaws.{Putting, putting_passed, putting_room, putting_turn}
 
 -- the rows before i were stored
 abbrev pub PuttingIds : List ℕ → ℕ → List ℕ → List ℕ → List ℕ → ℕ → ℕ → Type 0

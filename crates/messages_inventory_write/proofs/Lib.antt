@@ -1,1 +1,2 @@
 pub mod IdsLoop
+pub mod InventoryWriteLaws

@@ -1,3 +1,1 @@
 pub mod Asked
-pub mod MessageWriteLaws
-pub mod Cases

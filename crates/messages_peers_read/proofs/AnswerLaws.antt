@@ -3,14 +3,14 @@ use Prim.Native.Nat.{ℕ}
 use mathlib.Core.List.{List}
 use mathlib.Core.Path.{◌≡◌}
 use Rattle.wire.specs.Reader.{got, refused, list_of, map_answer}
-use Rattle.wire.specs.ReaderLaws.{map-value, map-refusal}
-use Rattle.wire.specs.ListOfLaws.{listed}
+use Rattle.wire.proofs.ReaderLaws.{map-value, map-refusal}
+use Rattle.wire.proofs.ListOfLaws.{listed}
 use Rattle.types.specs.declared.Network.{Network}
 use Rattle.handshake.specs.Entry.{Entry, entry}
 use Rattle.messages.specs.Message.{count}
 use Rattle.messages.specs.Bogus.{bogus_count}
 use Rattle.messages_peers_read.specs.Parts.{entries}
-use Rattle.messages_peers_read.specs.PartsLaws.{entries_start_lem}
+use Rattle.messages_peers_read.proofs.PartsLaws.{entries_start_lem}
 use Rattle.messages_peers_read.specs.Answers.{peers_of}
 
 module _ (network : Network) (cap : ℕ) (s : List ℕ) {n at : ℕ} (q : count cap s 0 ≡ got n at) where

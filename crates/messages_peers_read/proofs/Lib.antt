@@ -1,2 +1,5 @@
 pub mod BogusLoop
 pub mod AnswerLaws
+pub mod Cases
+pub mod PartsLaws
+pub mod ValuesLaws

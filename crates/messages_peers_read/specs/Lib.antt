@@ -1,6 +1,3 @@
 pub mod Parts
 pub mod Answers
-pub mod PartsLaws
 pub mod Values
-pub mod ValuesLaws
-pub mod Cases

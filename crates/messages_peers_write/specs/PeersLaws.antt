@@ -7,22 +7,22 @@ use Rattle.std.proofs.Math.ListN.{length}
 use Rattle.std.proofs.lemmas.List.{length-map}
 use borrow.Author.Tests.{le-leb, lt-leb, leb-true, leb-false}
 use Rattle.wire.specs.Bytes.{every}
-use Rattle.wire.specs.BytesLaws.{and-true}
+use Rattle.wire.proofs.BytesLaws.{and-true}
 use Rattle.wire.specs.declared.Written.{Written}
 use Rattle.wire.specs.declared.Written.TheVariants.{To}
 use Rattle.wire.specs.declared.Size.TheVariants.{Refused as Unsized}
 use Rattle.wire.specs.Output.{put, ask, asked, sized, written, output_after, Wrote}
-use Rattle.wire.specs.OutputLaws.{Accepted, length-put, wrote_checked, written-accepted}
-use Rattle.wire.specs.StandingLaws.{after-put, put-behind}
+use Rattle.wire.proofs.OutputLaws.{Accepted, length-put, wrote_checked, written-accepted}
+use Rattle.wire.proofs.StandingLaws.{after-put, put-behind}
 use Rattle.vlq.specs.Vlq.{limit, vlq_bytes}
-use Rattle.vlq.specs.VlqLaws.{vlq_pos}
+use Rattle.vlq.proofs.VlqLaws.{vlq_pos}
 use Rattle.types.specs.declared.Network.{Network}
 use Rattle.frame.specs.Frame.{frame_bytes}
 use Rattle.frame_write.specs.Asked.{frame_length, frame_written_for}
 use Rattle.frame_write.specs.FrameWriteLaws.{length-frame, frame_length-body, closed}
 use Rattle.handshake.specs.Value.{entry_bytes, short_strings, utf8_strings, few_features, lengths_within, entries_asked}
 use Rattle.handshake.specs.Tables.{Tables, entry_row, entry_rows, entry_from_row, entries_of, tables_whole, entry_inside}
-use Rattle.handshake.specs.RowsLaws.{length-rows}
+use Rattle.handshake.proofs.RowsLaws.{length-rows}
 use Rattle.wire_output.specs.Asked.{output_asked}
 use Rattle.wire_output.specs.CheckedLaws.{kept_unaccepted}
 use Rattle.handshake_entry_ask.specs.Asked.{rows_asked, entries_size}

@@ -4,15 +4,15 @@ use mathlib.Core.List.{List}
 use mathlib.Core.Path.{◌≡◌}
 use lib.ListN.{length}
 use Rattle.wire.specs.Reader.{got, refused, Segment, part, map_answer}
-use Rattle.wire.specs.ReaderLaws.{map-value, map-refusal}
+use Rattle.wire.proofs.ReaderLaws.{map-value, map-refusal}
 use Rattle.types.specs.declared.Network.{Network}
 use Rattle.messages.specs.Message as Bodies
 use Rattle.messages.specs.Message.{modifier_request, inv, ids, payload, payloads}
 use Rattle.messages_inventory_read.specs.declared.Inventory.{Inventory}
 use Rattle.messages_inventory_read.specs.Answers.{inventory_in}
 use Rattle.messages_inventory_read.specs.Parts.{Items, items}
-use Rattle.messages_inventory_read.specs.PartsLaws.{ids-items}
-use Rattle.messages_response_read.specs.PartsLaws.{payloads-items}
+use Rattle.messages_inventory_read.proofs.PartsLaws.{ids-items}
+use Rattle.messages_response_read.proofs.PartsLaws.{payloads-items}
 use Rattle.messages_read.specs.Answers.{message_of}
 use Rattle.messages_read.specs.declared.Message.TheVariants as Messages
 

@@ -8,7 +8,7 @@ use Rattle.handshake.specs.Entry.{Entry}
 use Rattle.messages.specs.Message.{peers, peers_body}
 use Rattle.messages_peers_read.specs.Answers.{peers_of}
 use Rattle.messages_peers_read.specs.Parts.{entries}
-use Rattle.messages_peers_read.specs.PartsLaws.{peers-entries}
+use Rattle.messages_peers_read.proofs.PartsLaws.{peers-entries}
 use Rattle.messages_peers_read.specs.declared.Peers.{Peers}
 use Rattle.messages_read.specs.Answers.{message_of}
 use Rattle.messages_read.specs.declared.Message.TheVariants as Messages

@@ -3,19 +3,19 @@ use Rattle.std.specs.Prelude.{ℕ, List, ◌≡◌, length}
 use Rattle.std.proofs.Math.Path.{refl}
 use Rattle.std.proofs.Common.{sym, ap, ◌∙◌}
 use Rattle.wire.specs.Reader.{got, Segment, part}
-use Rattle.wire.specs.ReaderLaws.{map-got}
+use Rattle.wire.proofs.ReaderLaws.{map-got}
 use Rattle.types.specs.declared.Network.{Network}
 use Rattle.messages.specs.Message as Bodies
 use Rattle.messages.specs.Message.{Message, payload, message}
-use Rattle.messages.specs.PlacesLaws.{ReadBy, by_none, by_peers, by_request, by_response, by_inv, by_sync_info, by_unknown, read_by}
+use Rattle.messages.proofs.PlacesLaws.{ReadBy, by_none, by_peers, by_request, by_response, by_inv, by_sync_info, by_unknown, read_by}
 use Rattle.messages.specs.Value.{peers_value, modifier_request_value, modifier_response_value, inv_value, message_value}
 use Rattle.messages_inventory_read.specs.Parts.{Items}
-use Rattle.messages_inventory_read.specs.PartsLaws.{ids-items}
-use Rattle.messages_response_read.specs.PartsLaws.{payloads-items}
-use Rattle.messages_inventory_read.specs.ValuesLaws.{ids_given_lem, items-from}
-use Rattle.messages_response_read.specs.ValuesLaws.{payloads_given_lem}
-use Rattle.messages_peers_read.specs.PartsLaws.{peers-entries}
-use Rattle.messages_peers_read.specs.ValuesLaws.{peers_given_lem, entries_from}
+use Rattle.messages_inventory_read.proofs.PartsLaws.{ids-items}
+use Rattle.messages_response_read.proofs.PartsLaws.{payloads-items}
+use Rattle.messages_inventory_read.proofs.ValuesLaws.{ids_given_lem, items-from}
+use Rattle.messages_response_read.proofs.ValuesLaws.{payloads_given_lem}
+use Rattle.messages_peers_read.proofs.PartsLaws.{peers-entries}
+use Rattle.messages_peers_read.proofs.ValuesLaws.{peers_given_lem, entries_from}
 use Rattle.messages_read.specs.Answers.{message_of}
 use Rattle.messages_read.specs.Values.{message_given, ListGiven, no_peers, peers, request, response, inv, sync_info, unknown}
 

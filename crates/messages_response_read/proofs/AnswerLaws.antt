@@ -6,7 +6,7 @@ use mathlib.Core.Path.{◌≡◌, ap, ◌∙◌}
 use lib.Dec.{leb}
 use lib.ListN.{length}
 use Rattle.wire.specs.Reader.{got, Segment, part, part_of, map_answer}
-use Rattle.wire.specs.ReaderLaws.{part_at, length_part, map-value}
+use Rattle.wire.proofs.ReaderLaws.{part_at, length_part, map-value}
 use Rattle.wire.specs.declared.Part.{Part}
 use Rattle.vlq.specs.Vlq.{vlq_length}
 use Rattle.messages.specs.Message.{payload_after}

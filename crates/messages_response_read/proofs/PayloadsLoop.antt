@@ -6,7 +6,7 @@ use mathlib.Core.Path.{◌≡◌, ap, ◌∙◌}
 use lib.ListN.{length}
 use Rattle.wire.specs.Reader.{got, refused, map_answer, list_of}
 use Rattle.messages.specs.Message.{Payload, total, payload_after, payload}
-use Rattle.wire.specs.LoopLaws.{ListSoFar, list_again, list-refused}
+use Rattle.wire.proofs.LoopLaws.{ListSoFar, list_again, list-refused}
 
 -- the payload lengths together, after one more payload
 pub total-more : (l : List Payload) (p : Payload) → total (l ++ (p ∷ [])) ≡ total l + length p.body.bytes

@@ -6,10 +6,10 @@ use mathlib.Core.Bool.{true}
 use mathlib.Core.Path.{◌≡◌, ap}
 use Rattle.wire.specs.Bytes.{every}
 use Rattle.handshake.specs.Tables.{rows}
-use Rattle.handshake.specs.RowsLaws.{rows_next, rows_none, every_here, every_rest}
+use Rattle.handshake.proofs.RowsLaws.{rows_next, rows_none, every_here, every_rest}
 use Rattle.messages.specs.declared.PayloadRow.{PayloadRow}
 use Rattle.messages_response_write.specs.Asked.{row_within}
-use Rattle.messages_response_write.specs.ResponseLaws.{row_length, rows_length}
+use Rattle.messages_response_write.specs.Asked.{row_length, rows_length}
 
 -- the rows before k were added
 pub record Adding (f : ℕ → PayloadRow) (n size k : ℕ) : Type 0 where

@@ -1,2 +1,3 @@
 pub mod LengthLoop
 pub mod Stores
+pub mod ResponseLaws

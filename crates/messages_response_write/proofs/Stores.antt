@@ -7,14 +7,15 @@ use mathlib.Core.Path.{◌≡◌}
 use lib.ListN.{length}
 use Rattle.wire.specs.declared.Written.{Written}
 use Rattle.wire.specs.Output.{written, output_after, Wrote}
-use Rattle.wire.specs.OutputLaws.{wrote_checked, wrote_then, wrote_length}
-use Rattle.wire.specs.ReaderLaws.{length_part}
+use Rattle.wire.proofs.OutputLaws.{wrote_checked, wrote_then, wrote_length}
+use Rattle.wire.proofs.ReaderLaws.{length_part}
 use Rattle.vlq.specs.Vlq.{vlq_bytes}
 use Rattle.handshake.specs.Tables.{bytes_at}
 use Rattle.messages.specs.Value.{payload_bytes}
 use Rattle.messages.specs.Writes.{payload_from_row, payload_inside}
 use Rattle.messages.specs.declared.PayloadRow.{PayloadRow}
-use Rattle.messages_response_write.specs.ResponseLaws.{row_length, id-inside, payload_parts, payload_long}
+use Rattle.messages_response_write.specs.Asked.{row_length}
+use Rattle.messages_response_write.proofs.ResponseLaws.{id-inside, payload_parts, payload_long}
 
 -- the id was stored
 module _ (buffer out : List ℕ) (at : ℕ) (row : PayloadRow) (h : payload_inside buffer row ≡ true)

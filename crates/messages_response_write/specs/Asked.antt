@@ -1,11 +1,11 @@
 -- What the writer of ModifierResponse says of an output of len bytes, by sizes: the questions of `messageWritten` that are not answered "yes" by what
 -- the message is.
 -- Only for laws, proofs and private functions: no public contract and no theorem cites what follows.
-use Rattle.std.specs.Prelude.{ℕ, ◌/◌, Bool, List, [], ◌∷◌, map, leb, length}
+use Rattle.std.specs.Prelude.{ℕ, ◌+◌, ◌/◌, Bool, List, [], ◌∷◌, map, leb, length}
 use Rattle.wire.specs.Bytes.{every}
 use Rattle.wire.specs.Output.{ask}
 use Rattle.wire.specs.declared.Written.{Written}
-use Rattle.vlq.specs.Vlq.{limit}
+use Rattle.vlq.specs.Vlq.{limit, vlq_bytes}
 use Rattle.wire_output.specs.Asked.{written_for}
 use Rattle.frame_write.specs.Asked.{frame_length}
 use Rattle.handshake.specs.Tables.{whole_rows}
@@ -36,3 +36,11 @@ response_written_for type payloads buffer len at =
     ∷ ask 7 (leb (length (response_bytes type payloads buffer)) limit)
     ∷ [])
     len at (frame_length (length (response_bytes type payloads buffer)))
+
+-- an id, a length and the bytes
+unfoldable pub row_length : PayloadRow → ℕ
+row_length row = 32 + length (vlq_bytes row.len) + row.len
+
+unfoldable pub rows_length : List PayloadRow → ℕ
+rows_length [] = 0
+rows_length (row ∷ l) = row_length row + rows_length l

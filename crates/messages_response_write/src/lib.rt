@@ -14,7 +14,7 @@ ghost use Rattle.messages.specs.Message.{max_inv_objects};
 ghost use Rattle.messages.specs.Value.{payload_bytes};
 ghost use Rattle.messages.specs.Writes.{payload_row_size, payload_row, payload_rows, payload_from_row, payload_inside, write_modifier_response, value_of, message_bytes, message_written};
 ghost use Rattle.messages_response_write.specs.Asked.{payloads_of, row_within, response_bytes, response_written_for};
-ghost use Rattle.messages_response_write.specs.ResponseLaws.{row_length, rows_length};
+ghost use Rattle.messages_response_write.specs.Asked.{row_length, rows_length};
 
 use frame::HEADER_SIZE;
 use messages::{ID_SIZE, MAX_INV_OBJECTS, MODIFIER_RESPONSE, PAYLOAD_ROW_SIZE, PayloadRow};

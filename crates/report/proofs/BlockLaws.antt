@@ -2,7 +2,7 @@
 use Rattle.std.proofs.Common.{◌≡◌, ℕ, ◌+◌, ◌-◌, ◌%◌, ◌^◌, ◌<◌, ◌≤◌, Bool, true, false, List, [], length, take, sym, refl, ap, ◌∙◌, arith, length-append, length-take-le}
 use Rattle.wire.specs.declared.Written.{Written}
 use Rattle.wire.specs.Output.{put, written, output_after, Wrote}
-use Rattle.wire.specs.OutputLaws.{length-put, put-here, Writing, writing_start, writing-turn, writing-end, wrote_checked}
+use Rattle.wire.proofs.OutputLaws.{length-put, put-here, Writing, writing_start, writing-turn, writing-end, wrote_checked}
 use Rattle.types.specs.declared.Network.{Network}
 use Rattle.types.specs.declared.StreamPlace.{StreamPlace}
 use Rattle.walk.specs.Session.{session_step}
@@ -13,7 +13,7 @@ use Rattle.report_lines.specs.StepLines.{line_of}
 use Rattle.report_lines.specs.NextLines.{next_of, line_at, next_at}
 use Rattle.report_lines.specs.declared.Next.{Next}
 use Rattle.report.specs.Report.{Block, block_at, block_next, report_text}
-use Rattle.report.specs.ReportLaws.{lines_from, text_from, block_from, OneLine, one_line, text-all, block-full, lays, lays-some}
+use Rattle.report.proofs.ReportLaws.{lines_from, text_from, block_from, OneLine, one_line, text-all, block-full, lays, lays-some}
 
 next-len : (r : StepRead) (at : StreamPlace) (n : ℕ) → (next_of r at n).len ≡ length (line_of r n)
 unfolding next_of

@@ -1,1 +1,4 @@
 pub mod BlockLaws
+pub mod Cases
+pub mod ReportLaws
+pub mod TheoremsProved

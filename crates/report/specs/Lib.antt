@@ -1,5 +1,2 @@
-pub mod Cases
 pub mod Report
-pub mod ReportLaws
 pub mod Theorems
-pub mod TheoremsProved

@@ -6,7 +6,7 @@ use mathlib.Core.Path.{◌≡◌}
 use lib.ListN.{length}
 use Rattle.wire.specs.declared.Written.{Written}
 use Rattle.wire.specs.Output.{written, output_after, Wrote}
-use Rattle.wire.specs.OutputLaws.{wrote_then, wrote_checked, wrote_length}
+use Rattle.wire.proofs.OutputLaws.{wrote_then, wrote_checked, wrote_length}
 use Rattle.wire_text_write.specs.Text.{decimal}
 use Rattle.report_text.specs.Lines.{labelled_number}
 

@@ -1,1 +1,4 @@
 pub mod VlqLoop
+pub mod Cases
+pub mod ShortStringLaws
+pub mod VlqLaws

@@ -9,7 +9,7 @@ use mathlib.Core.Path.{◌≡◌, refl, ap, sym, ◌∙◌}
 use lib.ListN.{length, get_or}
 use borrow.Author.Tests.{lt-ltb, le-ltb}
 use Rattle.wire.specs.Reader.{Answer, got, refused, bind}
-use Rattle.wire.specs.ReaderLaws.{byte-got, byte_missing, byte-outside}
+use Rattle.wire.proofs.ReaderLaws.{byte-got, byte_missing, byte-outside}
 use Rattle.vlq.specs.Vlq.{groups, vlq}
 
 -- what is read where at most n bytes may come, the groups so far come to sum, and the next one weighs weight

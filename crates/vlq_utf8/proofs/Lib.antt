@@ -1,2 +1,7 @@
 mod Leads
 mod Walk
+pub mod AsciiLaws
+pub mod Cases
+pub mod ScalarLaws
+pub mod ScalarStepLaws
+pub mod Utf8Laws

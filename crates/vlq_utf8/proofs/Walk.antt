@@ -12,7 +12,7 @@ use lib.ListN.{length, get_or, drop, drop_of_length-le}
 use lib.Seq.{drop-cons}
 use Rattle.vlq_utf8.specs.declared.Lead.TheVariants.{Followers, Bad}
 use Rattle.vlq_utf8.specs.Utf8.{lead_of, utf8_from, utf8}
-use Rattle.vlq_utf8.specs.Utf8Laws.{none_due}
+use Rattle.vlq_utf8.proofs.Utf8Laws.{none_due}
 use Rattle.vlq_utf8.proofs.Leads.{lead_ascii}
 
 pub record Stands (s : List ℕ) (at left low high : ℕ) : Type 0 where

@@ -14,8 +14,8 @@ use mir.Syntax.{Width}
 use mir.Val.{Fits, SFits, hbits, to_z, of_z}
 use mir.ValLaws.{pow-bits, to_z_pos, to_z-of_z}
 use Rattle.vlq_zigzag.specs.Zigzag.{zigzag_encode, zigzag_decode}
-use Rattle.vlq_zigzag.specs.ZigzagLaws.{decode_even, decode_odd}
-use Rattle.vlq_zigzag.specs.WidthLaws.{minus_below}
+use Rattle.vlq_zigzag.proofs.ZigzagLaws.{decode_even, decode_odd}
+use Rattle.vlq_zigzag.proofs.WidthLaws.{minus_below}
 
 minus_above : (h : ℕ) → negsuc 0 -ℤ pos h ≡ negsuc h
 minus_above zero = refl

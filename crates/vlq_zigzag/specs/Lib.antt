@@ -1,5 +1,2 @@
 pub mod Zigzag
 pub mod Width
-pub mod WidthLaws
-pub mod ZigzagLaws
-pub mod Cases

@@ -6,15 +6,3 @@ pub mod WrittenSession
 pub mod Calls
 pub mod Theorems
 pub mod Demands
-pub mod WalkLaws
-pub mod CutRuleLaws
-pub mod GrowsLaws
-pub mod WrittenLaws
-pub mod CallsLaws
-pub mod SessionLaws
-pub mod VerdictLaws
-pub mod PlacesLaws
-pub mod TheoremsProved
-pub mod DemandsProved
-pub mod Cases
-pub mod ValueCases

@@ -1,4 +1,2 @@
 pub mod InStream
 pub mod Answers
-pub mod InStreamLaws
-pub mod Cases

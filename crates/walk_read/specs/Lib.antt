@@ -4,10 +4,3 @@ pub mod Values
 pub mod GivenTheorems
 pub mod ValuesTheorems
 pub mod Demands
-pub mod StepsLaws
-pub mod GivenLaws
-pub mod ReachedLaws
-pub mod GivenTheoremsProved
-pub mod ValuesLaws
-pub mod ValuesTheoremsProved
-pub mod DemandsProved

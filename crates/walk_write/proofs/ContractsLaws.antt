@@ -11,7 +11,7 @@ use Rattle.handshake_build.specs.Parts.{config_of}
 use Rattle.messages.specs.Writes.{MessageWrite, write_get_peers, write_peers, write_modifier_request, write_modifier_response, write_inv, write_sync_info, write_unknown}
 use Rattle.walk.specs.WrittenSession.{write_handshake, write_built, write_message}
 use Rattle.walk.specs.Calls.{Called}
-use Rattle.walk.specs.CallsLaws.{called-handshake, called-built, called-peers, called-message}
+use Rattle.walk.proofs.CallsLaws.{called-handshake, called-built, called-peers, called-message}
 use Rattle.handshake_write.proofs.write_handshake.Reads as write_handshake
 use Rattle.handshake_build.proofs.build.Reads as build
 use Rattle.messages_peers_write.proofs.write_peers.Reads as write_peers

@@ -1,1 +1,15 @@
 pub mod SameLoop
+pub mod AnswerLaws
+pub mod BytesLaws
+pub mod Cases
+pub mod EarliestLaws
+pub mod GivesLaws
+pub mod ListLaws
+pub mod ListOfLaws
+pub mod LoopLaws
+pub mod OutputLaws
+pub mod ReaderLaws
+pub mod ReadsBackLaws
+pub mod StableLaws
+pub mod StandingLaws
+pub mod UpToLaws

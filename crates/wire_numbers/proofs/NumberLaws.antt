@@ -8,7 +8,7 @@ use mathlib.Core.Path.{◌≡◌, refl, sym, ap, ◌∙◌}
 use lib.ListN.{length, get_or, take}
 use lib.Seq.{take-suc, take_all}
 use Rattle.wire.specs.Bytes.{big_endian_from, big_endian}
-use Rattle.wire.specs.BytesLaws.{big_endian-append}
+use Rattle.wire.proofs.BytesLaws.{big_endian-append}
 
 -- x is the number of the first i bytes, of n at most
 pub record NumberSoFar (s : List ℕ) (n x i : ℕ) : Type 0 where

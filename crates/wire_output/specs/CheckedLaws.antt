@@ -4,8 +4,8 @@ use Rattle.std.proofs.Common.{arith, sym, ◌∙◌}
 use Rattle.wire.specs.declared.Written.{Written}
 use Rattle.wire.specs.declared.Written.TheVariants.{To, Refused}
 use Rattle.wire.specs.Output.{Question, written, output_after, Wrote}
-use Rattle.wire.specs.OutputLaws.{AllHold, Accepted, written-to, written-accepted}
-use Rattle.wire.specs.StandingLaws.{after-to, after-refused}
+use Rattle.wire.proofs.OutputLaws.{AllHold, Accepted, written-to, written-accepted}
+use Rattle.wire.proofs.StandingLaws.{after-to, after-refused}
 use Rattle.wire_output.specs.Asked.{written_for}
 
 module _ (before after : List Question) (out : List ℕ) (at : ℕ) (bs : List ℕ) {r : Written} where

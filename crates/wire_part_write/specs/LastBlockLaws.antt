@@ -2,7 +2,7 @@
 use Rattle.std.specs.Prelude.{ℕ, ◌+◌, ◌-◌, ◌≤◌, List, ◌≡◌, length, take, drop}
 use Rattle.std.proofs.Common.{arith, ◌∙◌, length-drop, take_all}
 use Rattle.wire.specs.Output.{Wrote}
-use Rattle.wire.specs.StandingLaws.{wrote_over}
+use Rattle.wire.proofs.StandingLaws.{wrote_over}
 
 pub last_block : (w : ℕ) {out : List ℕ} {at m : ℕ} {mid b : List ℕ} {e : ℕ} {last : List ℕ} (s : List ℕ) (i : ℕ) → w ≤ length s → length s ≤ i + w → i ≤ length s
     → at + length s ≤ length out → Wrote out at (take i s) m mid → b ≡ take w (drop (length s - w) s) → Wrote mid (at + (length s - w)) b e last → Wrote out at s e last

@@ -2,7 +2,7 @@
 use Rattle.std.proofs.Common.{◌≡◌, ℕ, ◌+◌, ◌-◌, ◌*◌, ◌≤◌, List, length, drop, refl, ap, ◌∙◌, add-one, arith, rules}
 use Rattle.blake2b_hash.specs.declared.Hash.{Hash}
 use Rattle.blake2b.specs.Blake2b.{bb, for, words}
-use Rattle.blake2b.specs.Blake2bLaws.{d-whole}
+use Rattle.blake2b.proofs.Blake2bLaws.{d-whole}
 use Rattle.blake2b_hash.specs.Running.{advanced, absorbed}
 use Rattle.blake2b_hash.proofs.Counter.{advanced-words}
 use Rattle.blake2b_hash.proofs.absorb.Goals as goal

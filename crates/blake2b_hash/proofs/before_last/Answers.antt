@@ -1,6 +1,6 @@
 -- The number of blocks before the last. Assumes nothing.
 use Rattle.std.proofs.Common.{arith, rules}
-use Rattle.blake2b.specs.Blake2bLaws.{dd-before}
+use Rattle.blake2b.proofs.Blake2bLaws.{dd-before}
 use Rattle.blake2b_hash.proofs.before_last.Goals as goal
 
 pub returns-then-n-eq0 : goal.returns-then-n-eq0

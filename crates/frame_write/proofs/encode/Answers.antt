@@ -2,7 +2,7 @@
 use mathlib.Core.Path.{◌∙◌}
 use lib.ListN.{length}
 use borrow.Author.Rules.{rules}
-use Rattle.wire.specs.StandingLaws.{after-to, after-refused}
+use Rattle.wire.proofs.StandingLaws.{after-to, after-refused}
 use Rattle.frame_write.specs.FrameWriteLaws.{said-frame, asked-frame}
 use Rattle.frame_write.proofs.encode.Goals as goal
 

@@ -3,7 +3,7 @@ use Prim.Native.Nat.{◌+◌, ◌-◌}
 use native.Mathlib.Omega.{arith}
 use mathlib.Core.Path.{◌≡◌}
 use borrow.Author.Rules.{rules}
-use Rattle.wire.specs.OutputLaws.{wrote_length}
+use Rattle.wire.proofs.OutputLaws.{wrote_length}
 use Rattle.frame_write.specs.FrameWriteLaws.{length-head, frame_length-least, frame_length-body, wrote_before, wrote_empty}
 use Rattle.frame_write.proofs.put_frame.Goals as goal
 

@@ -1,6 +1,6 @@
 -- `handshake_address_read::read_address` meets its contract: the definition, rewritten with what each of its readers answered.
 use mathlib.Core.Path.{sym, ap, ◌∙◌}
-use Rattle.wire.specs.ReaderLaws.{map-got, map-refused}
+use Rattle.wire.proofs.ReaderLaws.{map-got, map-refused}
 use Rattle.vlq.specs.Answers.{byte_answer, vlq_answer, part_answer}
 use Rattle.wire.specs.Reader.{part_of}
 use Rattle.handshake.specs.Entry.{address}

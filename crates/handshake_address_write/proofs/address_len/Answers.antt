@@ -2,7 +2,7 @@
 use native.Mathlib.Omega.{arith}
 use mathlib.Core.Path.{refl}
 use borrow.Author.Rules.{rules}
-use Rattle.vlq.specs.VlqLaws.{vlq_ten}
+use Rattle.vlq.proofs.VlqLaws.{vlq_ten}
 use Rattle.handshake.specs.Value.{address_bytes}
 use Rattle.handshake_address_write.specs.AddressLaws.{length-v4, length-v6}
 use Rattle.handshake_address_write.proofs.address_len.Goals as goal

@@ -3,7 +3,7 @@ use native.Mathlib.Omega.{arith}
 use mathlib.Core.Path.{ap, ◌∙◌}
 use lib.ListN.{length}
 use borrow.Author.Rules.{rules}
-use Rattle.wire.specs.OutputLaws.{wrote_byte}
+use Rattle.wire.proofs.OutputLaws.{wrote_byte}
 use Rattle.types.specs.declared.Address.{Address}
 use Rattle.handshake.specs.Value.{address_bytes}
 use Rattle.handshake_address_write.specs.AddressLaws.{length-v4, length-v6}

@@ -6,8 +6,8 @@ use mathlib.Core.Path.{◌≡◌, ap, ◌∙◌}
 use lib.ListN.{length, length-set}
 use borrow.Author.Rules.{rules}
 use Rattle.wire.specs.Bytes.{big_endian_bytes}
-use Rattle.wire.specs.BytesLaws.{length-big_endian_bytes}
-use Rattle.wire.specs.OutputLaws.{length-put, wrote_then, wrote_length, wrote_checked, wrote_two}
+use Rattle.wire.proofs.BytesLaws.{length-big_endian_bytes}
+use Rattle.wire.proofs.OutputLaws.{length-put, wrote_then, wrote_length, wrote_checked, wrote_two}
 use Rattle.vlq.specs.Vlq.{vlq_bytes}
 use Rattle.handshake_address_write.proofs.put_v4.Goals as goal
 

@@ -7,7 +7,7 @@ use mir.Val.{SFits}
 use lib.IntN.{ℤ}
 use lib.ListN.{length}
 use borrow.Author.Rules.{rules}
-use Rattle.vlq.specs.VlqLaws.{vlq_ten}
+use Rattle.vlq.proofs.VlqLaws.{vlq_ten}
 use Rattle.handshake.specs.Value.{feature_bytes}
 use Rattle.handshake_features_write.specs.Features.{mode_feature_of, session_feature_of}
 use Rattle.handshake_build.specs.Parts.{mode_feature_bytes, session_feature_bytes}

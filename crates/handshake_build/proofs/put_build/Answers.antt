@@ -4,7 +4,7 @@ use native.Mathlib.Omega.{arith}
 use mathlib.Core.List.{[]}
 use mathlib.Core.Path.{refl}
 use borrow.Author.Rules.{rules}
-use Rattle.wire.specs.OutputLaws.{wrote_then, wrote_length}
+use Rattle.wire.proofs.OutputLaws.{wrote_then, wrote_length}
 use Rattle.handshake.specs.Value.{address_bytes}
 use Rattle.handshake_build.specs.Parts.{before_address_bytes}
 use Rattle.handshake_build.specs.PartsLaws.{wrote_end, built_parts, length-built}

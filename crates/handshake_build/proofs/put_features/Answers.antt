@@ -8,7 +8,7 @@ use mir.Val.{SFits}
 use lib.IntN.{ℤ}
 use lib.ListN.{length}
 use borrow.Author.Rules.{rules}
-use Rattle.wire.specs.OutputLaws.{length-put, wrote_byte, wrote_then, wrote_length}
+use Rattle.wire.proofs.OutputLaws.{length-put, wrote_byte, wrote_then, wrote_length}
 use Rattle.handshake.specs.Value.{feature_bytes}
 use Rattle.handshake_features_write.specs.Features.{mode_feature_of, session_feature_of}
 use Rattle.handshake_build.specs.Parts.{mode_feature_bytes, session_feature_bytes}

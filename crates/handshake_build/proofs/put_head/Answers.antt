@@ -6,7 +6,7 @@ use mathlib.Core.Path.{refl}
 use lib.ListN.{length}
 use borrow.Author.Rules.{rules}
 use borrow.Author.Tests.{le-leb}
-use Rattle.wire.specs.OutputLaws.{wrote_then, wrote_length}
+use Rattle.wire.proofs.OutputLaws.{wrote_then, wrote_length}
 use Rattle.vlq.specs.Vlq.{vlq_bytes}
 use Rattle.vlq.specs.ShortString.{max_short_string, short_string_bytes}
 use Rattle.vlq_write.specs.Asked.{short_string_asked}

@@ -3,7 +3,7 @@ use native.Mathlib.Omega.{arith}
 use lib.ListN.{length-set}
 use borrow.Author.Rules.{rules}
 use Rattle.handshake.specs.Value.{version_bytes}
-use Rattle.wire.specs.OutputLaws.{wrote_three}
+use Rattle.wire.proofs.OutputLaws.{wrote_three}
 use Rattle.handshake_build.proofs.put_version.Goals as goal
 
 pub bounds-out-at-2 : goal.bounds-out-at-2

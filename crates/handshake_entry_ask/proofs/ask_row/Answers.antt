@@ -6,7 +6,7 @@ use mathlib.Core.Path.{sym, ◌∙◌}
 use borrow.Author.Rules.{rules}
 use borrow.Author.Tests.{not-true, not-false}
 use Rattle.handshake.specs.Tables.{tables, bytes_at}
-use Rattle.handshake.specs.TablesLaws.{parts_inside, own_range}
+use Rattle.handshake.proofs.TablesLaws.{parts_inside, own_range}
 use Rattle.handshake_entry_rows.specs.ValueLaws.{agent-part, name-part}
 use Rattle.handshake_entry_ask.specs.RowLaws.{fails_12, fails_13, fails_4, fails_15, short_row, last_3}
 use Rattle.handshake_entry_ask.proofs.ask_row.Goals as goal

@@ -6,7 +6,7 @@ use borrow.Author.Rules.{rules}
 use borrow.Author.Tests.{not-true, not-false}
 use Rattle.wire.specs.Bytes.{every}
 use Rattle.handshake.specs.Tables.{feature_row, inside, feature_inside}
-use Rattle.handshake.specs.RowsLaws.{rows-from, Passed, passed_start, passed-next, passed-not, passed-end}
+use Rattle.handshake.proofs.RowsLaws.{rows-from, Passed, passed_start, passed-next, passed-not, passed-end}
 use Rattle.handshake_entry_ask.proofs.features_inside.Goals as goal
 
 pub loop-k-init : goal.loop-k-init

@@ -5,7 +5,7 @@ use mathlib.Core.Path.{◌≡◌, refl}
 use lib.ListN.{length}
 use borrow.Author.Tests.{lt-ltb, le-ltb}
 use Rattle.handshake.specs.Tables.{feature_row, feature_numbers}
-use Rattle.handshake.specs.RowsLaws.{Passed, passed_start, passed-next, passed-not, passed-end}
+use Rattle.handshake.proofs.RowsLaws.{Passed, passed_start, passed-next, passed-not, passed-end}
 use Rattle.handshake_entry_rows.proofs.every_id.Given as goal
 
 abbrev pub invariant-loop-k : goal.invariant-loop-k

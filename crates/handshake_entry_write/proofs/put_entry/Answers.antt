@@ -3,9 +3,9 @@ use native.Mathlib.Omega.{arith}
 use mathlib.Core.List.{[]}
 use mathlib.Core.Path.{◌∙◌}
 use lib.ListN.{length-set}
-use Rattle.wire.specs.OutputLaws.{wrote_then, wrote_byte, wrote_length}
+use Rattle.wire.proofs.OutputLaws.{wrote_then, wrote_byte, wrote_length}
 use Rattle.handshake.specs.Tables.{tables, inside, entry_inside}
-use Rattle.handshake.specs.TablesLaws.{parts_inside, own_range}
+use Rattle.handshake.proofs.TablesLaws.{parts_inside, own_range}
 use Rattle.handshake_entry_ask.specs.LengthLaws.{entry_parts_lem, length-entry}
 use Rattle.handshake_entry_rows.specs.ValueLaws.{own-short, agent-part, name-part}
 use Rattle.handshake_entry_write.proofs.put_entry.Goals as goal

@@ -2,7 +2,7 @@
 use native.Mathlib.Omega.{arith}
 use mathlib.Core.Path.{◌∙◌}
 use borrow.Author.Rules.{rules}
-use Rattle.wire.specs.OutputLaws.{wrote_then, wrote_length}
+use Rattle.wire.proofs.OutputLaws.{wrote_then, wrote_length}
 use Rattle.handshake_entry_ask.specs.Asked.{head_bytes}
 use Rattle.handshake_entry_ask.specs.LengthLaws.{length-head}
 use Rattle.handshake_entry_ask.specs.RowLaws.{short_lengths}

@@ -3,7 +3,7 @@ use native.Mathlib.Omega.{arith}
 use mathlib.Core.Path.{◌∙◌}
 use lib.ListN.{length, length-set}
 use borrow.Author.Rules.{rules}
-use Rattle.wire.specs.OutputLaws.{wrote_then, wrote_byte, wrote_length}
+use Rattle.wire.proofs.OutputLaws.{wrote_then, wrote_byte, wrote_length}
 use Rattle.handshake_entry_write.proofs.put_string.Goals as goal
 
 pub put_part-requires : goal.put_part-requires

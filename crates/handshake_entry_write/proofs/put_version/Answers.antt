@@ -2,8 +2,8 @@
 use native.Mathlib.Omega.{arith}
 use lib.ListN.{length-set}
 use borrow.Author.Rules.{rules}
-use Rattle.handshake.specs.TablesLaws.{numbers_of}
-use Rattle.wire.specs.OutputLaws.{wrote_three}
+use Rattle.handshake.proofs.TablesLaws.{numbers_of}
+use Rattle.wire.proofs.OutputLaws.{wrote_three}
 use Rattle.handshake_entry_write.proofs.put_version.Goals as goal
 
 pub overflow_cast-out : goal.overflow_cast-out

@@ -4,8 +4,8 @@ use mathlib.Core.List.{[]}
 use mathlib.Core.Path.{ap}
 use lib.ListN.{length, length-set}
 use borrow.Author.Rules.{rules}
-use Rattle.wire.specs.OutputLaws.{wrote_byte, wrote_to}
-use Rattle.vlq.specs.VlqLaws.{vlq-last}
+use Rattle.wire.proofs.OutputLaws.{wrote_byte, wrote_to}
+use Rattle.vlq.proofs.VlqLaws.{vlq-last}
 use Rattle.wire_output.specs.CheckedLaws.{not-refused}
 use Rattle.handshake_entry_write.proofs.put_vlq.Goals as goal
 

@@ -4,7 +4,7 @@ use mathlib.Core.Path.{ap, ◌∙◌}
 use mir.Facts.{to_z-of_z}
 use lib.ListN.{length}
 use borrow.Author.Rules.{rules}
-use Rattle.vlq.specs.VlqLaws.{vlq_ten}
+use Rattle.vlq.proofs.VlqLaws.{vlq_ten}
 use Rattle.vlq_zigzag.specs.Zigzag.{zigzag_encode}
 use Rattle.handshake.specs.Writes.{nipopow}
 use Rattle.handshake_features_write.specs.FeaturesLaws.{length-mode}

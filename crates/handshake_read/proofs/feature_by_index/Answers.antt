@@ -1,6 +1,6 @@
 -- `handshake_read::feature_by_index` meets its contract: the feature that is read after those before it is the one with the index.
 use mathlib.Core.Path.{sym, ap, ◌∙◌}
-use Rattle.wire.specs.ReaderLaws.{map-got, map-refused, map-refusal}
+use Rattle.wire.proofs.ReaderLaws.{map-got, map-refused, map-refusal}
 use Rattle.handshake_read.specs.Answers.{peer_spec_of, entry_answer, features_ended, features_end_answer}
 use Rattle.handshake_read.specs.Parts.{feature_at}
 use Rattle.handshake_read.proofs.IndexLaws.{index-outside, index-inside, index-refused}

@@ -1,6 +1,6 @@
 -- `handshake_read::measure_size` meets its contract: the place where the handshake that `parse` read ends.
 use mathlib.Core.Path.{sym, ap, ◌∙◌}
-use Rattle.wire.specs.ReaderLaws.{map-got, map-refused}
+use Rattle.wire.proofs.ReaderLaws.{map-got, map-refused}
 use Rattle.handshake_read.specs.Answers.{handshake_of, handshake_answer}
 use borrow.Author.Rules.{rules}
 use Rattle.handshake_read.proofs.measure_size.Goals as goal

@@ -1,6 +1,6 @@
 -- `handshake_read::parse` meets its contract: the definition, rewritten with what each of its readers answered.
 use mathlib.Core.Path.{sym, ap, ◌∙◌}
-use Rattle.wire.specs.ReaderLaws.{map-got, map-refused, map-value, map-refusal}
+use Rattle.wire.proofs.ReaderLaws.{map-got, map-refused, map-value, map-refusal}
 use Rattle.vlq.specs.Answers.{vlq_answer}
 use Rattle.handshake.specs.Entry.{handshake}
 use Rattle.handshake_read.specs.Answers.{peer_spec_of, entry_answer}

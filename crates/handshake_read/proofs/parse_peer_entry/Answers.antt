@@ -1,8 +1,8 @@
 -- `handshake_read::parse_peer_entry` meets its contract: an entry is its head and then its features.
 use mathlib.Core.Path.{sym, ap, ◌∙◌}
-use Rattle.wire.specs.ReaderLaws.{map-got, map-refused, map-value, map-refusal}
-use Rattle.handshake_read.specs.AnswerLaws.{peer-read}
-use Rattle.handshake_read.specs.PartsLaws.{entry_parts_lem}
+use Rattle.wire.proofs.ReaderLaws.{map-got, map-refused, map-value, map-refusal}
+use Rattle.handshake_read.proofs.AnswerLaws.{peer-read}
+use Rattle.handshake_read.proofs.PartsLaws.{entry_parts_lem}
 use Rattle.handshake_read.specs.Answers.{head_of, head_answer, features_of, features_answer}
 use borrow.Author.Rules.{rules}
 use Rattle.handshake_read.proofs.parse_peer_entry.Goals as goal

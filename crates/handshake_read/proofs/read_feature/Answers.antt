@@ -1,7 +1,7 @@
 -- `handshake_read::read_feature` meets its contract: the definition, rewritten with what each of its readers answered.
 use mathlib.Core.Path.{sym, ap, ◌∙◌}
 use Rattle.wire.specs.Reader.{part_of}
-use Rattle.wire.specs.ReaderLaws.{map-got, map-refused, map-value, map-refusal}
+use Rattle.wire.proofs.ReaderLaws.{map-got, map-refused, map-value, map-refusal}
 use Rattle.vlq.specs.Answers.{byte_answer, vlq_answer, part_answer}
 use Rattle.handshake.specs.Entry.{feature}
 use borrow.Author.Rules.{rules}

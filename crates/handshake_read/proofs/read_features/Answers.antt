@@ -1,7 +1,7 @@
 -- `handshake_read::read_features` meets its contract: as many features are listed as the count says.
 use mathlib.Core.Path.{sym, ap, ◌∙◌}
-use Rattle.wire.specs.ReaderLaws.{map-got, map-refused, map-value, map-refusal}
-use Rattle.wire.specs.ListOfLaws.{listed}
+use Rattle.wire.proofs.ReaderLaws.{map-got, map-refused, map-value, map-refusal}
+use Rattle.wire.proofs.ListOfLaws.{listed}
 use Rattle.vlq.specs.Answers.{byte_answer}
 use Rattle.handshake_read.specs.Parts.{features}
 use Rattle.handshake_read.specs.Answers.{features_ended, features_end_answer}

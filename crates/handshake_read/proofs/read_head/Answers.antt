@@ -1,6 +1,6 @@
 -- `handshake_read::read_head` meets its contract: the definition, rewritten with what each of its readers answered.
 use mathlib.Core.Path.{sym, ap, ◌∙◌}
-use Rattle.wire.specs.ReaderLaws.{map-got, map-refused, map-value, map-refusal}
+use Rattle.wire.proofs.ReaderLaws.{map-got, map-refused, map-value, map-refusal}
 use Rattle.vlq.specs.Answers.{part_answer}
 use Rattle.wire.specs.Reader.{part_of}
 use Rattle.handshake_read.specs.Parts.{head}

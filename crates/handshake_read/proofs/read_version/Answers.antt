@@ -1,7 +1,7 @@
 -- `handshake_read::read_version` meets its contract: each answer is the field's, by the tests that led to it.
 use mathlib.Core.Path.{sym}
 use native.Mathlib.Omega.{arith}
-use Rattle.handshake_read.specs.AnswerLaws.{version-got, version_missing, version-outside}
+use Rattle.handshake_read.proofs.AnswerLaws.{version-got, version_missing, version-outside}
 use borrow.Author.Rules.{rules}
 use Rattle.handshake_read.proofs.read_version.Goals as goal
 

@@ -4,7 +4,7 @@ use mathlib.Core.Path.{sym, ap, ◌∙◌}
 use native.Mathlib.Omega.{arith}
 use borrow.Author.Rules.{rules}
 use borrow.Author.Tests.{eq-eqb, ne_eqb}
-use Rattle.wire.specs.ReaderLaws.{map-got, map-refused}
+use Rattle.wire.proofs.ReaderLaws.{map-got, map-refused}
 use Rattle.handshake_read.specs.Answers.{feature_of, feature_answer}
 use Rattle.handshake_verdict.proofs.FoundLaws.{NoneSoFar, none-start, none_again, first-here, none-refused, none_end}
 use Rattle.handshake_verdict.proofs.find_feature.Given as goal

@@ -1,7 +1,7 @@
 -- `handshake_verdict::read_url` meets its contract: by the short string that was read within the body.
 use mathlib.Core.Path.{sym, ap, ◌∙◌}
 use native.Mathlib.Omega.{arith}
-use Rattle.wire.specs.ReaderLaws.{map-got, map-refused}
+use Rattle.wire.proofs.ReaderLaws.{map-got, map-refused}
 use Rattle.wire.specs.Reader.{part_of}
 use Rattle.wire.specs.declared.Part.{Part}
 use Rattle.vlq.specs.Answers.{part_answer}

@@ -1,8 +1,8 @@
 -- `handshake_verdict::validate_entry` meets its contract: what was read of the entry is that entry again.
 use mathlib.Core.Path.{sym, ap, ◌∙◌}
-use Rattle.wire.specs.ReaderLaws.{map-got, map-refused, map-value, map-refusal}
+use Rattle.wire.proofs.ReaderLaws.{map-got, map-refused, map-value, map-refusal}
 use Rattle.handshake_read.specs.Answers.{peer_spec_of, entry_answer}
-use Rattle.handshake_verdict.specs.PeerLaws.{entry_again}
+use Rattle.handshake_verdict.proofs.PeerLaws.{entry_again}
 use borrow.Author.Rules.{rules}
 use Rattle.handshake_verdict.proofs.validate_entry.Goals as goal
 

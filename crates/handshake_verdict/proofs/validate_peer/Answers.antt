@@ -1,8 +1,8 @@
 -- `handshake_verdict::validate_peer` meets its contract: what was read of the handshake is its entry again.
 use mathlib.Core.Path.{sym, ap, ◌∙◌}
-use Rattle.wire.specs.ReaderLaws.{map-got, map-refused, map-value, map-refusal}
+use Rattle.wire.proofs.ReaderLaws.{map-got, map-refused, map-value, map-refusal}
 use Rattle.handshake_read.specs.Answers.{handshake_of, handshake_answer}
-use Rattle.handshake_verdict.specs.PeerLaws.{handshake_again}
+use Rattle.handshake_verdict.proofs.PeerLaws.{handshake_again}
 use borrow.Author.Rules.{rules}
 use Rattle.handshake_verdict.proofs.validate_peer.Goals as goal
 

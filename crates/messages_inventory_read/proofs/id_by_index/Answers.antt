@@ -2,10 +2,10 @@
 use native.Mathlib.Omega.{arith}
 use mathlib.Core.Path.{sym, ap, ◌∙◌}
 use Rattle.wire.specs.Reader.{part}
-use Rattle.wire.specs.ReaderLaws.{map-got, map-refused, map-refusal}
+use Rattle.wire.proofs.ReaderLaws.{map-got, map-refused, map-refusal}
 use Rattle.messages_inventory_read.specs.Parts.{id_at}
 use Rattle.messages_inventory_read.specs.Answers.{inventory_in, inventory_answer}
-use Rattle.messages_inventory_read.specs.ItemsLaws.{item_refused, item_past}
+use Rattle.messages_inventory_read.proofs.ItemsLaws.{item_refused, item_past}
 use Rattle.messages_inventory_read.proofs.AnswerLaws.{id-fits, id-got}
 use borrow.Author.Rules.{rules}
 use Rattle.messages_inventory_read.proofs.id_by_index.Goals as goal

@@ -2,11 +2,11 @@
 use native.Mathlib.Omega.{arith}
 use mathlib.Core.Path.{sym, ap, ◌∙◌}
 use Rattle.wire.specs.Reader.{part}
-use Rattle.wire.specs.ReaderLaws.{map-refusal}
+use Rattle.wire.proofs.ReaderLaws.{map-refusal}
 use Rattle.messages_inventory_read.specs.Parts.{items}
-use Rattle.messages_inventory_read.specs.PartsLaws.{header-ends, header_counts, ids-there, ids_missing}
+use Rattle.messages_inventory_read.proofs.PartsLaws.{header-ends, header_counts, ids-there, ids_missing}
 use Rattle.messages_inventory_read.specs.Answers.{header_answer}
-use Rattle.messages_inventory_read.specs.ItemsLaws.{items-got, items_refused}
+use Rattle.messages_inventory_read.proofs.ItemsLaws.{items-got, items_refused}
 use borrow.Author.Rules.{rules}
 use Rattle.messages_inventory_read.proofs.parse_inv_body.Goals as goal
 

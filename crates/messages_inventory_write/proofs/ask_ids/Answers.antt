@@ -7,7 +7,7 @@ use borrow.Author.Tests.{le-leb, lt-leb, not-true, not-false}
 use Rattle.wire.specs.Output.{asked}
 use Rattle.frame_write.specs.Asked.{frame_written_for}
 use Rattle.messages_inventory_write.specs.Asked.{ids_written_for}
-use Rattle.messages_inventory_write.specs.InventoryWriteLaws.{length-ids_bytes}
+use Rattle.messages_inventory_write.proofs.InventoryWriteLaws.{length-ids_bytes}
 use Rattle.messages_inventory_write.proofs.ask_ids.Goals as goal
 
 pub returns-then-len-at : goal.returns-then-len-at

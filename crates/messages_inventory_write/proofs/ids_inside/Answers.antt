@@ -5,7 +5,7 @@ use lib.Dec.{leb}
 use lib.ListN.{length, get_or}
 use borrow.Author.Rules.{rules}
 use borrow.Author.Tests.{le-leb, lt-leb}
-use Rattle.handshake.specs.RowsLaws.{Passed, passed_start, passed-next, passed-not, passed-end}
+use Rattle.handshake.proofs.RowsLaws.{Passed, passed_start, passed-next, passed-not, passed-end}
 use Rattle.messages_inventory_write.proofs.ids_inside.Goals as goal
 
 pub loop-i-init : goal.loop-i-init

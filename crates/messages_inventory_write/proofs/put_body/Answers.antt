@@ -3,8 +3,8 @@ use native.Mathlib.Omega.{arith}
 use mathlib.Core.Path.{◌∙◌}
 use lib.ListN.{length}
 use borrow.Author.Rules.{rules}
-use Rattle.wire.specs.OutputLaws.{wrote_then, wrote_length}
-use Rattle.messages_inventory_write.specs.InventoryWriteLaws.{ids_parts, length_parts, count_stored}
+use Rattle.wire.proofs.OutputLaws.{wrote_then, wrote_length}
+use Rattle.messages_inventory_write.proofs.InventoryWriteLaws.{ids_parts, length_parts, count_stored}
 use Rattle.messages_inventory_write.proofs.put_body.Goals as goal
 
 pub bounds-out-at : goal.bounds-out-at

@@ -7,7 +7,7 @@ use borrow.Author.Rules.{rules}
 use Rattle.frame_write.specs.FrameWriteLaws.{frame_length-body, closed}
 use Rattle.messages.specs.Value.{ids_bytes}
 use Rattle.messages.specs.Writes.{ids_of}
-use Rattle.messages_inventory_write.specs.InventoryWriteLaws.{length_parts}
+use Rattle.messages_inventory_write.proofs.InventoryWriteLaws.{length_parts}
 use Rattle.messages_inventory_write.proofs.put_ids.Goals as goal
 
 pub put_body-end-requires : goal.put_body-end-requires

@@ -1,8 +1,8 @@
 -- `messages_inventory_write::write_ids` meets its contract: the questions were answered by sizes, and the frame was stored once all held.
 use lib.ListN.{length}
 use borrow.Author.Rules.{rules}
-use Rattle.wire.specs.StandingLaws.{after-put, after-refused}
-use Rattle.messages_inventory_write.specs.InventoryWriteLaws.{asked-ids}
+use Rattle.wire.proofs.StandingLaws.{after-put, after-refused}
+use Rattle.messages_inventory_write.proofs.InventoryWriteLaws.{asked-ids}
 use Rattle.messages_inventory_write.proofs.write_ids.Goals as goal
 
 pub put_ids-requires : goal.put_ids-requires

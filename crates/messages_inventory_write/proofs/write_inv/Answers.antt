@@ -3,7 +3,7 @@ use mathlib.Core.Path.{◌∙◌}
 use borrow.Author.Rules.{rules}
 use Rattle.messages.specs.Value.{code_of, body_bytes}
 use Rattle.messages.specs.Writes.{value_of}
-use Rattle.messages_inventory_write.specs.InventoryWriteLaws.{said-inv}
+use Rattle.messages_inventory_write.proofs.InventoryWriteLaws.{said-inv}
 use Rattle.messages_inventory_write.proofs.write_inv.Goals as goal
 
 pub returns : goal.returns

@@ -3,7 +3,7 @@ use mathlib.Core.Path.{◌∙◌}
 use borrow.Author.Rules.{rules}
 use Rattle.messages.specs.Value.{code_of, body_bytes}
 use Rattle.messages.specs.Writes.{value_of}
-use Rattle.messages_opaque_write.specs.MessageWriteLaws.{said_get_peers}
+use Rattle.messages_opaque_write.proofs.MessageWriteLaws.{said_get_peers}
 use Rattle.messages_opaque_write.proofs.write_get_peers.Goals as goal
 
 pub returns : goal.returns

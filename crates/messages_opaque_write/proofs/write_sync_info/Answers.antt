@@ -3,7 +3,7 @@ use mathlib.Core.Path.{◌∙◌}
 use borrow.Author.Rules.{rules}
 use Rattle.messages.specs.Value.{code_of, body_bytes}
 use Rattle.messages.specs.Writes.{value_of}
-use Rattle.messages_opaque_write.specs.MessageWriteLaws.{said-sync_info}
+use Rattle.messages_opaque_write.proofs.MessageWriteLaws.{said-sync_info}
 use Rattle.messages_opaque_write.proofs.write_sync_info.Goals as goal
 
 pub returns : goal.returns

@@ -1,10 +1,10 @@
 -- `messages_opaque_write::write_unknown` meets its contract: the questions were answered by sizes, and the frame was stored once all held.
 use mathlib.Core.Path.{◌∙◌}
 use borrow.Author.Rules.{rules}
-use Rattle.wire.specs.StandingLaws.{after-refused}
+use Rattle.wire.proofs.StandingLaws.{after-refused}
 use Rattle.messages.specs.Value.{code_of, body_bytes}
 use Rattle.messages.specs.Writes.{value_of}
-use Rattle.messages_opaque_write.specs.MessageWriteLaws.{said-unknown, stored_unknown}
+use Rattle.messages_opaque_write.proofs.MessageWriteLaws.{said-unknown, stored_unknown}
 use Rattle.messages_opaque_write.proofs.write_unknown.Goals as goal
 
 pub returns-in-To : goal.returns-in-To

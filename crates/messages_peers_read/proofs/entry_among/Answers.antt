@@ -1,7 +1,7 @@
 -- `messages_peers_read::entry_among` meets its contract: once all entries are read, the one that is read after those before it.
 use mathlib.Core.Path.{sym, ap, ◌∙◌}
 use borrow.Author.Tests.{lt-ltb, le-ltb}
-use Rattle.wire.specs.ReaderLaws.{map-got, map-refused, map-refusal}
+use Rattle.wire.proofs.ReaderLaws.{map-got, map-refused, map-refusal}
 use Rattle.messages_inventory_read.specs.Parts.{item_by_index}
 use Rattle.messages_peers_read.specs.Parts.{entry_among}
 use Rattle.messages_peers_read.specs.Answers.{entries_ended, entries_end_answer}

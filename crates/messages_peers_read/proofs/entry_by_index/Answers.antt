@@ -1,8 +1,8 @@
 -- `messages_peers_read::entry_by_index` meets its contract: the definition, rewritten with what the count's reader answered.
 use mathlib.Core.Path.{sym, ap, ◌∙◌}
-use Rattle.wire.specs.ReaderLaws.{map-refusal}
+use Rattle.wire.proofs.ReaderLaws.{map-refusal}
 use Rattle.messages_peers_read.specs.Parts.{entries, entry_at}
-use Rattle.messages_peers_read.specs.PartsLaws.{entry_among_lem}
+use Rattle.messages_peers_read.proofs.PartsLaws.{entry_among_lem}
 use Rattle.messages_inventory_read.specs.Answers.{count_answer}
 use borrow.Author.Rules.{rules}
 use Rattle.messages_peers_read.proofs.entry_by_index.Goals as goal

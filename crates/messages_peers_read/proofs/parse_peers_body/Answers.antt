@@ -1,6 +1,6 @@
 -- `messages_peers_read::parse_peers_body` meets its contract: as many entries are read as the count says, and the bogus ones are counted.
 use mathlib.Core.Path.{sym, ap, ◌∙◌}
-use Rattle.wire.specs.ReaderLaws.{map-got, map-refused, map-refusal}
+use Rattle.wire.proofs.ReaderLaws.{map-got, map-refused, map-refusal}
 use Rattle.messages.specs.Bogus.{bogus_count}
 use Rattle.messages_inventory_read.specs.Answers.{count_answer}
 use Rattle.messages_peers_read.specs.Parts.{entries}

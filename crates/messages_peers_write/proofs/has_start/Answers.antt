@@ -5,7 +5,7 @@ use lib.ListN.{length}
 use borrow.Author.Rules.{rules}
 use borrow.Author.Tests.{le-leb, lt-leb}
 use Rattle.vlq.specs.Vlq.{vlq_bytes}
-use Rattle.vlq.specs.VlqLaws.{vlq_ten}
+use Rattle.vlq.proofs.VlqLaws.{vlq_ten}
 use Rattle.messages_peers_write.specs.Asked.{peers_start}
 use Rattle.messages_peers_write.proofs.has_start.Goals as goal
 

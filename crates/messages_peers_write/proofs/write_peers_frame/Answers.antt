@@ -2,7 +2,7 @@
 use native.Mathlib.Omega.{arith}
 use mathlib.Core.Path.{sym, ◌∙◌}
 use borrow.Author.Rules.{rules}
-use Rattle.wire.specs.StandingLaws.{after-refused}
+use Rattle.wire.proofs.StandingLaws.{after-refused}
 use Rattle.handshake.specs.Tables.{tables}
 use Rattle.messages_peers_write.specs.PeersLaws.{body_end, frame_stored}
 use Rattle.messages_peers_write.proofs.write_peers_frame.Goals as goal

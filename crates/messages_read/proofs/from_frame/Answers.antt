@@ -2,7 +2,7 @@
 use mathlib.Core.Path.{sym, ap, ◌∙◌}
 use borrow.Author.Tests.{ne_eqb}
 use Rattle.wire.specs.Reader.{map_answer}
-use Rattle.wire.specs.ReaderLaws.{map-got, map-refused, map-value}
+use Rattle.wire.proofs.ReaderLaws.{map-got, map-refused, map-value}
 use Rattle.messages.specs.Message.{modifier_request, inv, whole_body, message}
 use Rattle.messages_inventory_read.specs.Answers.{inventory_in, inventory_answer}
 use Rattle.messages_peers_read.specs.Answers.{peers_answer}

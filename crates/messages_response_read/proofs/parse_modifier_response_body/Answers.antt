@@ -1,11 +1,11 @@
 -- `messages_response_read::parse_modifier_response_body` meets its contract: as many payloads are read as the count says.
 use mathlib.Core.Path.{sym, ap, ◌∙◌}
 use lib.ListN.{length}
-use Rattle.wire.specs.ReaderLaws.{map-got, map-refused, map-refusal}
+use Rattle.wire.proofs.ReaderLaws.{map-got, map-refused, map-refusal}
 use Rattle.messages.specs.Message.{total, payload}
 use Rattle.messages_inventory_read.specs.Parts.{items}
 use Rattle.messages_inventory_read.specs.Answers.{header_answer}
-use Rattle.messages_inventory_read.specs.ItemsLaws.{items-got, items_refused}
+use Rattle.messages_inventory_read.proofs.ItemsLaws.{items-got, items_refused}
 use Rattle.messages_response_read.specs.Answers.{sum_answer}
 use borrow.Author.Rules.{rules}
 use Rattle.messages_response_read.proofs.parse_modifier_response_body.Goals as goal

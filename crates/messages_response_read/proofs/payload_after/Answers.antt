@@ -1,7 +1,7 @@
 -- `messages_response_read::payload_after` meets its contract: it answers what `read_payload` answers, without the lengths so far.
 use Prim.Native.Nat.{ℕ}
 use mathlib.Core.Path.{sym, ap, ◌∙◌}
-use Rattle.wire.specs.ReaderLaws.{map-got, map-refused, map-value, map-refusal}
+use Rattle.wire.proofs.ReaderLaws.{map-got, map-refused, map-value, map-refusal}
 use Rattle.messages_response_read.specs.declared.Payload.{Payload}
 use Rattle.messages_response_read.specs.Answers.{payload_sum, payload_answer}
 use borrow.Author.Rules.{rules}

@@ -1,10 +1,10 @@
 -- `messages_response_read::payload_by_index` meets its contract: once the body is read, the payload that is read after those before it.
 use mathlib.Core.Path.{sym, ap, ◌∙◌}
 use lib.ListN.{length}
-use Rattle.wire.specs.ReaderLaws.{map-got, map-refused, map-refusal}
+use Rattle.wire.proofs.ReaderLaws.{map-got, map-refused, map-refusal}
 use Rattle.messages.specs.Message.{total, payload}
 use Rattle.messages_inventory_read.specs.Answers.{inventory_in, inventory_answer}
-use Rattle.messages_inventory_read.specs.ItemsLaws.{item_refused, item_past, item-after, item-not-after}
+use Rattle.messages_inventory_read.proofs.ItemsLaws.{item_refused, item_past, item-after, item-not-after}
 use Rattle.messages_response_read.specs.Parts.{payload_at}
 use Rattle.messages_response_read.specs.Answers.{sum_answer}
 use borrow.Author.Rules.{rules}

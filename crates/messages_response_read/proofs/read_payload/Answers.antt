@@ -5,7 +5,7 @@ use mathlib.Core.Path.{sym, ap, ◌∙◌}
 use lib.ListN.{length}
 use borrow.Author.Tests.{leb-true, not-true, not-false}
 use Rattle.wire.specs.Reader.{part_of}
-use Rattle.wire.specs.ReaderLaws.{map-got, map-refused, map-refusal}
+use Rattle.wire.proofs.ReaderLaws.{map-got, map-refused, map-refusal}
 use Rattle.vlq.specs.Answers.{vlq_answer, part_answer}
 use Rattle.messages.specs.Message.{payload_after}
 use Rattle.messages_response_read.proofs.AnswerLaws.{payload-got}

@@ -10,7 +10,7 @@ use Rattle.frame_write.specs.Asked.{frame_written_for}
 use Rattle.handshake.specs.Tables.{whole_rows, inside}
 use Rattle.messages.specs.Writes.{payload_rows, payload_inside}
 use Rattle.messages_response_write.specs.Asked.{response_written_for}
-use Rattle.messages_response_write.specs.ResponseLaws.{within-rows, length-response}
+use Rattle.messages_response_write.proofs.ResponseLaws.{within-rows, length-response}
 use Rattle.messages_response_write.proofs.ask_response.Goals as goal
 
 pub returns-then-payloads-ne0 : goal.returns-then-payloads-ne0

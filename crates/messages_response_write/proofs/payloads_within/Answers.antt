@@ -6,7 +6,7 @@ use lib.ListN.{length}
 use borrow.Author.Rules.{rules}
 use borrow.Author.Tests.{le-leb, lt-leb}
 use Rattle.vlq.specs.Vlq.{limit}
-use Rattle.handshake.specs.RowsLaws.{Passed, passed_start, passed-next, passed-not, passed-end}
+use Rattle.handshake.proofs.RowsLaws.{Passed, passed_start, passed-next, passed-not, passed-end}
 use Rattle.messages.specs.Writes.{payload_row}
 use Rattle.messages_response_write.specs.Asked.{row_within}
 use Rattle.messages_response_write.proofs.payloads_within.Goals as goal

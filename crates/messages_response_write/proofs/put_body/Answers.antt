@@ -4,9 +4,9 @@ use native.Mathlib.Omega.{arith}
 use mathlib.Core.Path.{◌∙◌}
 use lib.ListN.{length}
 use borrow.Author.Rules.{rules}
-use Rattle.wire.specs.OutputLaws.{wrote_then, wrote_length}
-use Rattle.messages_inventory_write.specs.InventoryWriteLaws.{count_stored}
-use Rattle.messages_response_write.specs.ResponseLaws.{response_parts, length_parts}
+use Rattle.wire.proofs.OutputLaws.{wrote_then, wrote_length}
+use Rattle.messages_inventory_write.proofs.InventoryWriteLaws.{count_stored}
+use Rattle.messages_response_write.proofs.ResponseLaws.{response_parts, length_parts}
 use Rattle.messages_response_write.proofs.put_body.Goals as goal
 
 pub bounds-out-at : goal.bounds-out-at

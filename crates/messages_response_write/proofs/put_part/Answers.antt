@@ -4,8 +4,8 @@ use native.Mathlib.Omega.{arith}
 use mathlib.Core.List.{[]}
 use mathlib.Core.Path.{◌≡◌}
 use borrow.Author.Rules.{rules}
-use Rattle.wire.specs.OutputLaws.{wrote_checked}
-use Rattle.wire.specs.ReaderLaws.{length_part}
+use Rattle.wire.proofs.OutputLaws.{wrote_checked}
+use Rattle.wire.proofs.ReaderLaws.{length_part}
 use Rattle.handshake.specs.Tables.{bytes_at}
 use Rattle.messages_response_write.proofs.put_part.Goals as goal
 

@@ -1,8 +1,9 @@
 -- `messages_response_write::put_payload` meets its contract: the id was stored, the length, and then the bytes.
 use native.Mathlib.Omega.{arith}
 use borrow.Author.Rules.{rules}
-use Rattle.wire.specs.OutputLaws.{wrote_length}
-use Rattle.messages_response_write.specs.ResponseLaws.{row_length, id-inside, bytes_inside, payload_long}
+use Rattle.wire.proofs.OutputLaws.{wrote_length}
+use Rattle.messages_response_write.specs.Asked.{row_length}
+use Rattle.messages_response_write.proofs.ResponseLaws.{id-inside, bytes_inside, payload_long}
 use Rattle.messages_response_write.proofs.Stores.{after-id, length_stored, payload_stored}
 use Rattle.messages_response_write.proofs.put_payload.Goals as goal
 

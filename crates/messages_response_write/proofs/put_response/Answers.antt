@@ -6,7 +6,7 @@ use lib.ListN.{length}
 use borrow.Author.Rules.{rules}
 use Rattle.frame_write.specs.FrameWriteLaws.{frame_length-body, closed}
 use Rattle.messages_response_write.specs.Asked.{response_bytes}
-use Rattle.messages_response_write.specs.ResponseLaws.{length_parts}
+use Rattle.messages_response_write.proofs.ResponseLaws.{length_parts}
 use Rattle.messages_response_write.proofs.put_response.Goals as goal
 
 pub put_body-end-requires : goal.put_body-end-requires

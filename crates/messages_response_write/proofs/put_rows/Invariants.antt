@@ -3,7 +3,7 @@ use Prim.Native.Nat.{◌-◌, ◌/◌}
 use native.Mathlib.Omega.{arith}
 use lib.ListN.{length}
 use borrow.Author.Rules.{rules}
-use Rattle.handshake.specs.PuttingLaws.{Putting, putting_start, putting_passed, putting_room, putting_turn, putting_end}
+use Rattle.handshake.proofs.PuttingLaws.{Putting, putting_start, putting_passed, putting_room, putting_turn, putting_end}
 use Rattle.messages.specs.Value.{payload_bytes}
 use Rattle.messages.specs.Writes.{payload_row, payload_from_row, payload_inside}
 use Rattle.messages_response_write.proofs.put_rows.Given as goal

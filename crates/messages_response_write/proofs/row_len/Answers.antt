@@ -3,9 +3,9 @@ use native.Mathlib.Omega.{arith}
 use borrow.Author.Rules.{rules}
 use borrow.Author.Tests.{leb-true}
 use Rattle.vlq.specs.Vlq.{limit}
-use Rattle.vlq.specs.VlqLaws.{vlq_ten}
+use Rattle.vlq.proofs.VlqLaws.{vlq_ten}
 use Rattle.messages_response_write.specs.Asked.{row_within}
-use Rattle.messages_response_write.specs.ResponseLaws.{row_length}
+use Rattle.messages_response_write.specs.Asked.{row_length}
 use Rattle.messages_response_write.proofs.row_len.Goals as goal
 
 pub overflow_add-result : goal.overflow_add-result

@@ -6,7 +6,7 @@ use lib.ListN.{length}
 use borrow.Author.Rules.{rules}
 use Rattle.messages.specs.Writes.{payload_row}
 use Rattle.messages_response_write.specs.Asked.{row_within}
-use Rattle.messages_response_write.specs.ResponseLaws.{row_length}
+use Rattle.messages_response_write.specs.Asked.{row_length}
 use Rattle.messages_response_write.proofs.LengthLoop.{Adding, adding_start, adding_within, adding_turn, adding_end}
 use Rattle.messages_response_write.proofs.rows_len.Given as goal
 

@@ -5,8 +5,8 @@ use lib.ListN.{length}
 use borrow.Author.Rules.{rules}
 use Rattle.messages.specs.Value.{code_of}
 use Rattle.messages.specs.Writes.{value_of}
-use Rattle.wire.specs.StandingLaws.{after-put, after-refused}
-use Rattle.messages_response_write.specs.ResponseLaws.{said-response, asked-response}
+use Rattle.wire.proofs.StandingLaws.{after-put, after-refused}
+use Rattle.messages_response_write.proofs.ResponseLaws.{said-response, asked-response}
 use Rattle.messages_response_write.proofs.write_modifier_response.Goals as goal
 
 pub put_response-requires : goal.put_response-requires

@@ -1,6 +1,6 @@
 -- `report_lines::step_line` meets its contract: by the kind of step.
 use native.Mathlib.Omega.{arith}
-use Rattle.wire.specs.OutputLaws.{wrote_none}
+use Rattle.wire.proofs.OutputLaws.{wrote_none}
 use Rattle.report_lines.specs.StepLines.{line_of}
 use borrow.Author.Rules.{rules}
 use Rattle.report_lines.proofs.step_line.Goals as goal

@@ -1,6 +1,6 @@
 -- `report_text::put_handshake` meets its contract: one part after the other.
 use native.Mathlib.Omega.{arith}
-use Rattle.wire.specs.OutputLaws.{wrote_then}
+use Rattle.wire.proofs.OutputLaws.{wrote_then}
 use Rattle.report_text.specs.Lines.{handshake_line}
 use borrow.Author.Rules.{rules}
 use Rattle.report_text.proofs.put_handshake.Goals as goal

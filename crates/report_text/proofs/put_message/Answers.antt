@@ -1,6 +1,6 @@
 -- `report_text::put_message` meets its contract: the text, then the line's end.
 use native.Mathlib.Omega.{arith}
-use Rattle.wire.specs.OutputLaws.{wrote_then}
+use Rattle.wire.proofs.OutputLaws.{wrote_then}
 use Rattle.report_text.specs.Lines.{message_line}
 use borrow.Author.Rules.{rules}
 use Rattle.report_text.proofs.put_message.Goals as goal

@@ -1,6 +1,6 @@
 -- `report_text::put_message_text` meets its contract: the places, then the code.
 use native.Mathlib.Omega.{arith}
-use Rattle.wire.specs.OutputLaws.{wrote_then}
+use Rattle.wire.proofs.OutputLaws.{wrote_then}
 use Rattle.report_text.specs.Lines.{message_text}
 use borrow.Author.Rules.{rules}
 use Rattle.report_text.proofs.put_message_text.Goals as goal

@@ -1,6 +1,6 @@
 -- `report_text::put_stop` meets its contract: the text with its numbers, then the line's end.
 use native.Mathlib.Omega.{arith}
-use Rattle.wire.specs.OutputLaws.{wrote_then}
+use Rattle.wire.proofs.OutputLaws.{wrote_then}
 use Rattle.report_text.specs.Lines.{stop_line}
 use borrow.Author.Rules.{rules}
 use Rattle.report_text.proofs.put_stop.Goals as goal

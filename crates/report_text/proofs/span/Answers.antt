@@ -1,6 +1,6 @@
 -- `report_text::span` meets its contract: one field after the other.
 use native.Mathlib.Omega.{arith}
-use Rattle.wire.specs.OutputLaws.{wrote_then}
+use Rattle.wire.proofs.OutputLaws.{wrote_then}
 use Rattle.report_text.specs.Lines.{span}
 use borrow.Author.Rules.{rules}
 use Rattle.report_text.proofs.span.Goals as goal

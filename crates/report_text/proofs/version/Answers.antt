@@ -1,6 +1,6 @@
 -- `report_text::version` meets its contract: one number after the other.
 use native.Mathlib.Omega.{arith}
-use Rattle.wire.specs.OutputLaws.{wrote_then}
+use Rattle.wire.proofs.OutputLaws.{wrote_then}
 use Rattle.report_text.specs.Lines.{version_text}
 use borrow.Author.Rules.{rules}
 use Rattle.report_text.proofs.version.Goals as goal

@@ -1,7 +1,7 @@
 -- `vlq_utf8::non_ascii` meets its contract: before each turn, where m is 0, none of the last eight bytes and no byte before `at` is above 0x7F.
 use native.Mathlib.Omega.{arith}
-use Rattle.wire.specs.UpToLaws.{upto_start, upto_end}
-use Rattle.vlq_utf8.specs.AsciiLaws.{ascii_join}
+use Rattle.wire.proofs.UpToLaws.{upto_start, upto_end}
+use Rattle.vlq_utf8.proofs.AsciiLaws.{ascii_join}
 use Rattle.vlq_utf8.proofs.non_ascii.Goals as goal
 
 pub returns-then-n-lt8 : goal.returns-then-n-lt8

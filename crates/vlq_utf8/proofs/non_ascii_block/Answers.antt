@@ -1,8 +1,8 @@
 -- `vlq_utf8::non_ascii_block` meets its contract: before each turn m is 0 only where none of the i bytes so far is above 0x7F.
 use Prim.Native.Nat.{◌+◌}
 use native.Mathlib.Omega.{arith}
-use Rattle.wire.specs.UpToLaws.{upto_start, upto_end}
-use Rattle.vlq_utf8.specs.AsciiLaws.{high-next}
+use Rattle.wire.proofs.UpToLaws.{upto_start, upto_end}
+use Rattle.vlq_utf8.proofs.AsciiLaws.{high-next}
 use Rattle.vlq_utf8.proofs.non_ascii_block.Goals as goal
 
 pub loop-i-init : goal.loop-i-init

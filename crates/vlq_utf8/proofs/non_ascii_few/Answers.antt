@@ -1,7 +1,7 @@
 -- `vlq_utf8::non_ascii_few` meets its contract: the two blocks of four have no gap between them.
 use native.Mathlib.Omega.{arith}
-use Rattle.wire.specs.UpToLaws.{upto_end}
-use Rattle.vlq_utf8.specs.AsciiLaws.{ascii_join}
+use Rattle.wire.proofs.UpToLaws.{upto_end}
+use Rattle.vlq_utf8.proofs.AsciiLaws.{ascii_join}
 use Rattle.vlq_utf8.proofs.non_ascii_few.Goals as goal
 
 pub returns-then-n-lt4 : goal.returns-then-n-lt4

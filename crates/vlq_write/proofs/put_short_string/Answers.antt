@@ -8,7 +8,7 @@ use lib.ListN.{length, set, length-set}
 use borrow.Author.Rules.{rules}
 use Rattle.wire.specs.declared.Written.{Written}
 use Rattle.wire.specs.Output.{written, output_after, Wrote}
-use Rattle.wire.specs.OutputLaws.{wrote_byte, wrote_then, wrote_length, wrote_checked}
+use Rattle.wire.proofs.OutputLaws.{wrote_byte, wrote_then, wrote_length, wrote_checked}
 use Rattle.vlq_write.proofs.put_short_string.Goals as goal
 
 both : {r : Written} {last : List ℕ} (out : List ℕ) (at n : ℕ) (s : List ℕ) → at + (1 + length s) ≤ length out

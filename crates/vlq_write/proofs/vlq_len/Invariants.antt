@@ -4,7 +4,7 @@ use Prim.Native.Nat.{◌+◌, ◌≤◌}
 use native.Mathlib.Omega.{arith}
 use lib.ListN.{length}
 use Rattle.vlq.specs.Vlq.{vlq_bytes}
-use Rattle.vlq.specs.VlqLaws.{vlq-last, vlq-more}
+use Rattle.vlq.proofs.VlqLaws.{vlq-last, vlq-more}
 use Rattle.vlq_write.proofs.vlq_len.Given as goal
 
 abbrev pub invariant-loop-rest : goal.invariant-loop-rest

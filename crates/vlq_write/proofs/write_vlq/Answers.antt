@@ -11,10 +11,10 @@ use lib.ListN.{length}
 use borrow.Author.Rules.{rules}
 use borrow.Author.Tests.{leb-true}
 use Rattle.wire.specs.declared.Written.TheVariants.{To}
-use Rattle.wire.specs.OutputLaws.{written-to}
-use Rattle.wire.specs.StandingLaws.{after-to}
+use Rattle.wire.proofs.OutputLaws.{written-to}
+use Rattle.wire.proofs.StandingLaws.{after-to}
 use Rattle.vlq.specs.Vlq.{vlq_bytes}
-use Rattle.vlq.specs.VlqLaws.{vlq_ten}
+use Rattle.vlq.proofs.VlqLaws.{vlq_ten}
 use Rattle.wire_output.specs.CheckedLaws.{accepted, stored, kept}
 use Rattle.vlq_write.proofs.write_vlq.Goals as goal
 

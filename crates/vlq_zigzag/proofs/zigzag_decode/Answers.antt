@@ -2,7 +2,7 @@
 use mathlib.Core.Path.{sym, ◌∙◌, subst}
 use mir.Syntax.{w32, w64}
 use mir.Val.{SFits}
-use Rattle.vlq_zigzag.specs.ZigzagLaws.{decode-fits}
+use Rattle.vlq_zigzag.proofs.ZigzagLaws.{decode-fits}
 use Rattle.vlq_zigzag.proofs.Casts.{narrows, narrowed}
 use Rattle.vlq_zigzag.proofs.zigzag_decode.Goals as goal
 

@@ -3,7 +3,7 @@ use mathlib.Core.Path.{◌≡◌, sym, ap, ◌∙◌, subst}
 use mir.Syntax.{w32, w64}
 use mir.Val.{Fits}
 use Rattle.vlq_zigzag.specs.Zigzag.{zigzag_encode}
-use Rattle.vlq_zigzag.specs.ZigzagLaws.{encode-fits}
+use Rattle.vlq_zigzag.proofs.ZigzagLaws.{encode-fits}
 use Rattle.vlq_zigzag.proofs.Casts.{widens, widened}
 use Rattle.vlq_zigzag.proofs.zigzag_encode.Goals as goal
 

@@ -6,7 +6,7 @@ use borrow.Author.Rules.{rules}
 use borrow.Author.Tests.{not-true, not-false}
 use Rattle.messages_peers_read.specs.Answers.{peer_entry_answer}
 use Rattle.walk_by_index.specs.InStream.{entry_in_stream}
-use Rattle.walk_by_index.specs.InStreamLaws.{inside-within, from-outside, from-got, from-refused}
+use Rattle.walk_by_index.proofs.InStreamLaws.{inside-within, from-outside, from-got, from-refused}
 use Rattle.walk_by_index.proofs.entry_in_stream.Goals as goal
 
 part-entry-by-index-end : tie.Need-slice-bounds-entry-by-index-end

@@ -4,10 +4,10 @@ use native.Mathlib.Omega.{arith}
 use mathlib.Core.Path.{◌≡◌, sym, ap, ◌∙◌}
 use borrow.Author.Rules.{rules}
 use borrow.Author.Tests.{not-true, not-false}
-use Rattle.wire.specs.ReaderLaws.{map-got}
+use Rattle.wire.proofs.ReaderLaws.{map-got}
 use Rattle.messages_inventory_read.specs.Answers.{id_answer, id_of}
 use Rattle.walk_by_index.specs.InStream.{in_stream, id_in_stream}
-use Rattle.walk_by_index.specs.InStreamLaws.{inside-within, from-outside, from-got, from-refused, id-refused, id_at_lem}
+use Rattle.walk_by_index.proofs.InStreamLaws.{inside-within, from-outside, from-got, from-refused, id-refused, id_at_lem}
 use Rattle.walk_by_index.proofs.id_in_stream.Goals as goal
 
 part-id-by-index-end : tie.Need-slice-bounds-id-by-index-end

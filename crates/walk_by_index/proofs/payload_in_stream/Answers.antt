@@ -6,7 +6,7 @@ use borrow.Author.Rules.{rules}
 use borrow.Author.Tests.{not-true, not-false}
 use Rattle.messages_response_read.specs.Answers.{payload_by_index_answer}
 use Rattle.walk_by_index.specs.InStream.{payload_in_stream}
-use Rattle.walk_by_index.specs.InStreamLaws.{inside-within, from-outside, from-got, from-refused}
+use Rattle.walk_by_index.proofs.InStreamLaws.{inside-within, from-outside, from-got, from-refused}
 use Rattle.walk_by_index.proofs.payload_in_stream.Goals as goal
 
 part-payload-by-index-end : tie.Need-slice-bounds-payload-by-index-end

@@ -1,8 +1,8 @@
 -- `walk_read::handshake_step` meets its contract: the handshake and the verdict on it, or the number of its refusal.
 use mathlib.Core.Path.{sym, ap, ◌∙◌}
-use Rattle.wire.specs.ReaderLaws.{map-got, map-refused}
+use Rattle.wire.proofs.ReaderLaws.{map-got, map-refused}
 use Rattle.handshake_read.specs.Answers.{handshake_of, handshake_answer}
-use Rattle.walk_read.specs.StepsLaws.{handshake-read, handshake-refused}
+use Rattle.walk_read.proofs.StepsLaws.{handshake-read, handshake-refused}
 use borrow.Author.Rules.{rules}
 use Rattle.walk_read.proofs.handshake_step.Goals as goal
 

@@ -1,8 +1,8 @@
 -- `walk_read::message_step` meets its contract: the frame opened as a message, or the number of its refusal.
 use mathlib.Core.Path.{sym, ap, ◌∙◌}
-use Rattle.wire.specs.ReaderLaws.{map-got, map-refused}
+use Rattle.wire.proofs.ReaderLaws.{map-got, map-refused}
 use Rattle.frame_read.specs.Answers.{frame_of, frame_answer}
-use Rattle.walk_read.specs.StepsLaws.{frame-inside, frame_opened, frame_refused}
+use Rattle.walk_read.proofs.StepsLaws.{frame-inside, frame_opened, frame_refused}
 use borrow.Author.Rules.{rules}
 use Rattle.walk_read.proofs.message_step.Goals as goal
 

@@ -3,7 +3,7 @@ use Prim.Native.Nat.{◌+◌, ◌-◌}
 use native.Mathlib.Omega.{arith}
 use mathlib.Core.Path.{◌≡◌, sym, ap, ◌∙◌}
 use Rattle.messages_read.specs.Answers.{message_answer}
-use Rattle.walk_read.specs.StepsLaws.{body-got, body_refused}
+use Rattle.walk_read.proofs.StepsLaws.{body-got, body_refused}
 use borrow.Author.Rules.{rules}
 use Rattle.walk_read.proofs.open_frame.Goals as goal
 

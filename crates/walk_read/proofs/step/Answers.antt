@@ -1,6 +1,6 @@
 -- `walk_read::step` meets its contract: by the place.
 use native.Mathlib.Omega.{arith}
-use Rattle.walk_read.specs.StepsLaws.{at-start, at-end, past_end, at-frame}
+use Rattle.walk_read.proofs.StepsLaws.{at-start, at-end, past_end, at-frame}
 use borrow.Author.Rules.{rules}
 use Rattle.walk_read.proofs.step.Goals as goal
 

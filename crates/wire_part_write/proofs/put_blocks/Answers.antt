@@ -9,8 +9,8 @@ use borrow.Author.Rules.{rules}
 use lib.ListN.{length, take, drop}
 use lib.Seq.{take-add, length-take-le}
 use Rattle.wire.specs.Output.{put, Wrote}
-use Rattle.wire.specs.OutputLaws.{wrote_none, wrote_then, wrote_length}
-use Rattle.wire.specs.ReaderLaws.{length_part}
+use Rattle.wire.proofs.OutputLaws.{wrote_none, wrote_then, wrote_length}
+use Rattle.wire.proofs.ReaderLaws.{length_part}
 use Rattle.wire_part_write.proofs.put_blocks.Goals as goal
 
 next : {out : List ℕ} {at : ℕ} {mid : List ℕ} {b : List ℕ} {e : ℕ} {last : List ℕ} (s : List ℕ) (i : ℕ) → i + 8 ≤ length s → b ≡ take 8 (drop i s)

@@ -9,8 +9,8 @@ use borrow.Author.Rules.{rules}
 use lib.ListN.{length, take, drop}
 use lib.Seq.{take-add, length-take-le}
 use Rattle.wire.specs.Output.{put, Wrote}
-use Rattle.wire.specs.OutputLaws.{wrote_none, wrote_then, wrote_length}
-use Rattle.wire.specs.ReaderLaws.{length_part}
+use Rattle.wire.proofs.OutputLaws.{wrote_none, wrote_then, wrote_length}
+use Rattle.wire.proofs.ReaderLaws.{length_part}
 use Rattle.wire_part_write.proofs.put_blocks.Given as goal
 
 abbrev pub invariant-loop-i : goal.invariant-loop-i

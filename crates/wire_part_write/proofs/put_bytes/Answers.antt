@@ -7,7 +7,7 @@ use mathlib.Core.List.{List, [], ◌∷◌, ◌++◌}
 use mathlib.Core.Path.{◌≡◌}
 use lib.ListN.{length, get_or, drop, length-drop, drop_of_length-le}
 use lib.Seq.{drop-cons}
-use Rattle.wire.specs.OutputLaws.{Writing, writing_start, writing-turn, writing-end, writing-room, wrote_byte}
+use Rattle.wire.proofs.OutputLaws.{Writing, writing_start, writing-turn, writing-end, writing-room, wrote_byte}
 use Rattle.wire_part_write.proofs.put_bytes.Goals as goal
 
 next : (s : List ℕ) (i : ℕ) → i < length s → drop i s ≡ (get_or s i 0 ∷ []) ++ drop (i + 1) s

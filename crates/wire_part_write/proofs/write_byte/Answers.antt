@@ -2,7 +2,7 @@
 use native.Mathlib.Omega.{arith}
 use mathlib.Core.List.{[], ◌∷◌}
 use borrow.Author.Rules.{rules}
-use Rattle.wire.specs.OutputLaws.{wrote_byte}
+use Rattle.wire.proofs.OutputLaws.{wrote_byte}
 use Rattle.wire_output.specs.CheckedLaws.{accepted, stored, kept}
 use Rattle.wire_part_write.proofs.write_byte.Goals as goal
 

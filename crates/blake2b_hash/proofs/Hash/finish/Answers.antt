@@ -2,7 +2,7 @@
 use Rattle.std.proofs.Common.{◌≡◌, ℕ, ◌-◌, List, length, take, arith, rules}
 use Rattle.blake2b_hash.specs.declared.Hash.{Hash}
 use Rattle.blake2b.specs.Blake2b.{dd, unwords}
-use Rattle.blake2b.specs.Blake2bLaws.{dd-before}
+use Rattle.blake2b.proofs.Blake2bLaws.{dd-before}
 use Rattle.blake2b_hash.specs.Running.{absorbed, ended, finished}
 use Rattle.blake2b_hash.proofs.Hash.finish.Goals as goal
 

@@ -2,7 +2,7 @@
 use Rattle.std.proofs.Common.{◌≡◌, ℕ, List, length, ap, ◌∙◌, arith, rules}
 use Rattle.blake2b_hash.specs.declared.Hash.{Hash}
 use Rattle.blake2b.specs.Blake2b.{bb, for}
-use Rattle.blake2b.specs.Blake2bLaws.{d-whole}
+use Rattle.blake2b.proofs.Blake2bLaws.{d-whole}
 use Rattle.blake2b_hash.specs.Running.{advanced, absorbed, stepped}
 use Rattle.blake2b_hash.proofs.Hash.step.Goals as goal
 

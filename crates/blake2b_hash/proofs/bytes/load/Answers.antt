@@ -3,7 +3,7 @@ use Rattle.std.proofs.Common.{◌≡◌, ℕ, ◌+◌, ◌-◌, ◌*◌, ◌<◌
 use lib.Seq.{take-length}
 use Rattle.blake2b.specs.Blake2b.{word, words}
 use Rattle.blake2b_hash.proofs.Blocks.{length-words, words-at}
-use Rattle.blake2b.specs.FilledLaws.{filled, filled_more, filled-all}
+use Rattle.blake2b.proofs.FilledLaws.{filled, filled_more, filled-all}
 use Rattle.blake2b_hash.proofs.bytes.load.Goals as goal
 
 more : (s m : List ℕ) (at i x : ℕ) → i < 16 → x ≡ word (take 8 (drop (at + i * 8) s)) → m ≡ filled 16 (words 16 (drop at s)) i

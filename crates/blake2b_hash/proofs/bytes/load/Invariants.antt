@@ -3,7 +3,7 @@ use Rattle.std.proofs.Common.{◌≡◌, ℕ, ◌+◌, ◌-◌, ◌*◌, ◌<◌
 use lib.Seq.{take-length}
 use Rattle.blake2b.specs.Blake2b.{word, words}
 use Rattle.blake2b_hash.proofs.Blocks.{length-words, words-at}
-use Rattle.blake2b.specs.FilledLaws.{filled, filled_more, filled-all}
+use Rattle.blake2b.proofs.FilledLaws.{filled, filled_more, filled-all}
 use Rattle.blake2b_hash.proofs.bytes.load.Given as goal
 
 abbrev pub invariant-loop-i : goal.invariant-loop-i

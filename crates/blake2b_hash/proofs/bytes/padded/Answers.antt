@@ -1,7 +1,7 @@
 -- The loop's invariant: i bytes are copied, and zero bytes follow. Assumes nothing.
 use Rattle.std.proofs.Common.{◌≡◌, ℕ, ◌+◌, ◌-◌, ◌<◌, ◌≤◌, List, ◌++◌, length, take, drop, set, replicate, sym, refl, ap, ◌∙◌, arith, length-drop, get_or-drop}
 use Rattle.blake2b.specs.Blake2b.{bb, ◌!◌}
-use Rattle.blake2b.specs.FilledLaws.{filled, filled_more, filled-padded}
+use Rattle.blake2b.proofs.FilledLaws.{filled, filled_more, filled-padded}
 use Rattle.blake2b_hash.proofs.bytes.padded.Goals as goal
 
 more : (s b : List ℕ) (at i : ℕ) → at + i < length s → i < bb → b ≡ filled bb (drop at s) i → set b i (s ! (at + i)) ≡ filled bb (drop at s) (i + 1)

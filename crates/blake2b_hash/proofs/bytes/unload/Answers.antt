@@ -1,9 +1,9 @@
 -- The loop's invariant: the first i bytes are the state's. Assumes nothing.
 use Rattle.std.proofs.Common.{◌≡◌, ℕ, ◌+◌, ◌-◌, ◌*◌, ◌/◌, ◌%◌, ◌<◌, ◌≤◌, List, length, set, sym, refl, ap, ◌∙◌, arith}
 use Rattle.blake2b.specs.Blake2b.{◌!◌, bytes, unwords}
-use Rattle.blake2b.specs.CheckLaws.{length-unwords}
+use Rattle.blake2b.proofs.CheckLaws.{length-unwords}
 use Rattle.blake2b_hash.proofs.Blocks.{unwords-at}
-use Rattle.blake2b.specs.FilledLaws.{filled, filled_more, filled-all}
+use Rattle.blake2b.proofs.FilledLaws.{filled, filled_more, filled-all}
 use Rattle.blake2b_hash.proofs.bytes.unload.Goals as goal
 
 more : (h out : List ℕ) (i x : ℕ) → length h ≡ 8 → i < 32 → x ≡ bytes 8 (h ! (i / 8)) ! (i % 8) → out ≡ filled 32 (unwords h) i

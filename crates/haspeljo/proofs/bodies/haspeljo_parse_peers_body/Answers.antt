@@ -1,6 +1,6 @@
 -- `haspeljo::bodies::haspeljo_parse_peers_body` meets its contract: number and array are those of what the reader answered, as a message.
 use Rattle.wire.specs.Reader.{Answer, map_answer}
-use Rattle.wire.specs.ReaderLaws.{map-value, map-refusal}
+use Rattle.wire.proofs.ReaderLaws.{map-value, map-refusal}
 use Rattle.messages_peers_read.specs.declared.PeersRead.{PeersRead}
 use Rattle.messages_peers_read.specs.Answers.{peers_answer}
 use Rattle.messages_read.specs.declared.Message.{Message}

@@ -3,7 +3,7 @@ use mathlib.Core.Path.{◌≡◌, sym, ◌∙◌}
 use mir.Syntax.{w32, w64}
 use mir.Val.{to_z, of_z}
 use borrow.Author.Rules.{rules}
-use Rattle.export_config.specs.ConfigsLaws.{value_of, refused-of}
+use Rattle.export_config.proofs.ConfigsLaws.{value_of, refused-of}
 use Rattle.haspeljo.proofs.ExportLaws.{writer_leaves}
 use Rattle.haspeljo.proofs.BuildLaws.{build-same, build-refused}
 use Rattle.haspeljo.proofs.writers.haspeljo_build.Goals as goal

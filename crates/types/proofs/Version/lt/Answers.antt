@@ -1,6 +1,6 @@
 -- `Version::lt` meets its contract: the first field in which the two versions differ decides.
 use Rattle.types.specs.Order.{below}
-use Rattle.types.specs.OrderLaws.{then_by_ne, then_by-eq, then_by-last}
+use Rattle.types.proofs.OrderLaws.{then_by_ne, then_by-eq, then_by-last}
 use Rattle.types.proofs.Version.lt.Goals as goal
 
 pub returns-then-self-other : goal.returns-then-self-other

@@ -1,7 +1,7 @@
 -- `vlq::Cursor::read_byte` meets its contract: each answer is the field's, by the tests that led to it.
 use mathlib.Core.Path.{sym}
 use native.Mathlib.Omega.{arith}
-use Rattle.wire.specs.ReaderLaws.{byte-got, byte_missing, byte-outside}
+use Rattle.wire.proofs.ReaderLaws.{byte-got, byte_missing, byte-outside}
 use borrow.Author.Rules.{rules}
 use Rattle.vlq.proofs.Cursor.read_byte.Goals as goal
 

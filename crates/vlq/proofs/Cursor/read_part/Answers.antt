@@ -2,7 +2,7 @@
 use mathlib.Core.Path.{sym}
 use native.Mathlib.Omega.{arith}
 use Rattle.wire.specs.Reader.{map_answer}
-use Rattle.wire.specs.ReaderLaws.{part-place, part_missing, part-outside}
+use Rattle.wire.proofs.ReaderLaws.{part-place, part_missing, part-outside}
 use borrow.Author.Rules.{rules}
 use Rattle.vlq.proofs.Cursor.read_part.Goals as goal
 

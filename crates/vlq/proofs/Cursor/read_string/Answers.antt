@@ -2,7 +2,7 @@
 use mathlib.Core.Path.{sym, ◌∙◌}
 use mathlib.Core.Bool.{true, false}
 use native.Mathlib.Omega.{arith}
-use Rattle.vlq.specs.ShortStringLaws.{string-got, string_missing, string-outside}
+use Rattle.vlq.proofs.ShortStringLaws.{string-got, string_missing, string-outside}
 use borrow.Author.Rules.{rules}
 use Rattle.vlq.proofs.Cursor.read_string.Goals as goal
 

@@ -1,0 +1,6 @@
+pub mod AppendixA
+pub mod Blake2bLaws
+pub mod Cases
+pub mod CheckLaws
+pub mod ElementsLaws
+pub mod FilledLaws

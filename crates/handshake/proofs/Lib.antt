@@ -1,0 +1,12 @@
+pub mod AddressLaws
+pub mod ByIndexLaws
+pub mod Cases
+pub mod EntryLaws
+pub mod ModeCases
+pub mod OrderCases
+pub mod PlacesLaws
+pub mod PuttingLaws
+pub mod RowsLaws
+pub mod TablesLaws
+pub mod ValueLaws
+pub mod WritesLaws

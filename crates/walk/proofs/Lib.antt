@@ -1,0 +1,12 @@
+pub mod CallsLaws
+pub mod Cases
+pub mod CutRuleLaws
+pub mod DemandsProved
+pub mod GrowsLaws
+pub mod PlacesLaws
+pub mod SessionLaws
+pub mod TheoremsProved
+pub mod ValueCases
+pub mod VerdictLaws
+pub mod WalkLaws
+pub mod WrittenLaws
