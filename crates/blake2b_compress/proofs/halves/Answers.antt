@@ -1,5 +1,5 @@
 -- The loop's invariant: both halves have their first i words. Assumes nothing.
-use Rattle.std.proofs.Common.{◌≡◌, ℕ, ◌-◌, ◌≤◌, List, ◌++◌, length, refl, ◌∙◌, ap₂, arith, take_all}
+use Rattle.std.proofs.Common.{◌≡◌, ℕ, List, ◌++◌, length, refl, ◌∙◌, ap₂, arith, take_all}
 use Rattle.blake2b.specs.FilledLaws.{filled, filled-both, filled-all}
 use Rattle.blake2b_compress.proofs.halves.Goals as goal
 
@@ -11,8 +11,7 @@ pub loop-i-init : goal.loop-i-init
 loop-i-init c = (omega arith, refl)
 
 pub loop-i-preserved : goal.loop-i-preserved
-loop-i-preserved c =
-    (
+loop-i-preserved c = (
   omega arith,
   filled-both 8 _ _ _ _ _ _ _ (omega arith) (omega arith) (omega arith) (omega arith) refl refl c.loop-i.invariant.1,
 )

@@ -5,10 +5,8 @@ use Rattle.blake2b.specs.Blake2b.{bb, for, words}
 use Rattle.blake2b.specs.Blake2bLaws.{d-whole}
 use Rattle.blake2b_hash.specs.Running.{advanced, absorbed}
 use Rattle.blake2b_hash.proofs.Counter.{advanced-words}
+use Rattle.blake2b_hash.proofs.absorb.Invariants.{hash}
 use Rattle.blake2b_hash.proofs.absorb.Goals as goal
-
-abbrev hash : List ℕ → ℕ → ℕ → Hash
-hash h low high = record { h = h; t0 = low; t1 = high }
 
 one_more : (x y z : Hash) (s m : List ℕ) (i : ℕ) → i * bb + bb ≤ length s → y ≡ absorbed x s i → m ≡ words 16 (drop (i * bb) s) → z ≡ advanced y m
     → z ≡ absorbed x s (i + 1)
@@ -25,7 +23,7 @@ loop-i-preserved c =
       omega arith,
       one_more _ (hash c.loop-i.h c.loop-i.t0 c.loop-i.t1) _ _ _ _ (omega arith) c.loop-i.invariant.1
           c.load-m.ensures
-          (advanced-words (hash c.loop-i.h c.loop-i.t0 c.loop-i.t1) _ _ _ _ c.wrapping_add_u64-t0.ensures c.high-t1.ensures
+          (advanced-words (hash c.loop-i.h c.loop-i.t0 c.loop-i.t1) _ _ _ _ c.wrapping_add_u64-t0.ensures.value c.high-t1.ensures
           c.compress_at.ensures),
     )
 
