@@ -1,5 +1,5 @@
 -- The number of blocks before the last. Assumes nothing.
-use Rattle.std.proofs.Common.{arith, rules}
+use Rattle.std.proofs.Common.{arith}
 use Rattle.blake2b.specs.Blake2bLaws.{dd-before}
 use Rattle.blake2b_hash.proofs.before_last.Goals as goal
 

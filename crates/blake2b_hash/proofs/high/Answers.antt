@@ -1,5 +1,5 @@
 -- The high word is one more exactly where the low word wraps. Assumes nothing.
-use Rattle.std.proofs.Common.{◌≡◌, ℕ, ◌+◌, ◌/◌, ◌%◌, ◌^◌, ◌<◌, ◌≤◌, sym, ap, ◌∙◌, arith, rules}
+use Rattle.std.proofs.Common.{◌≡◌, ℕ, ◌+◌, ◌/◌, ◌%◌, ◌^◌, ◌<◌, ◌≤◌, sym, ap, ◌∙◌, arith}
 use Rattle.blake2b_hash.proofs.high.Goals as goal
 
 wraps : (a n s : ℕ) → a < 2 ^ 64 → n < 2 ^ 64 → s ≡ (a + n) % 2 ^ 64 → s < n → (a + n) / 2 ^ 64 ≡ 1

@@ -1,6 +1,5 @@
 -- The rest of the data in a padded block, counted and flagged as the last. Assumes nothing.
 use Rattle.blake2b_hash.proofs.Counter.{ended-words}
-use Rattle.std.proofs.Common.{rules}
 use Rattle.blake2b_hash.proofs.last.Goals as goal
 
 pub returns : goal.returns

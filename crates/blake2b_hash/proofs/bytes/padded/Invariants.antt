@@ -1,7 +1,7 @@
 -- The loop's invariant: i bytes are copied, and zero bytes follow. Assumes nothing.
-use Rattle.std.proofs.Common.{◌≡◌, ℕ, ◌+◌, ◌-◌, ◌<◌, ◌≤◌, List, ◌++◌, length, take, drop, set, replicate, sym, refl, ap, ◌∙◌, arith, length-drop, get_or-drop}
-use Rattle.blake2b.specs.Blake2b.{bb, ◌!◌}
-use Rattle.blake2b.specs.FilledLaws.{filled, filled_more, filled-padded}
+use Rattle.std.proofs.Common.{◌≡◌, ◌-◌, ◌≤◌, drop}
+use Rattle.blake2b.specs.Blake2b.{bb}
+use Rattle.blake2b.specs.FilledLaws.{filled}
 use Rattle.blake2b_hash.proofs.bytes.padded.Given as goal
 
 abbrev pub invariant-loop-i : goal.invariant-loop-i
