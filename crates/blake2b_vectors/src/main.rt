@@ -4,7 +4,8 @@
 ghost use Rattle.std.specs.Prelude.{◌+◌, ◌≤◌, length};
 
 use blake2b_hash::Hash;
-use libc::STDOUT_FILENO;
+
+const STDOUT: i32 = 1;
 
 fn main() {
     appendix_a();
@@ -27,11 +28,11 @@ fn main() {
 // BLAKE2b-512 of "abc": the words of the state, then its bytes.
 fn appendix_a() {
     let h = abc();
-    io::write_all(STDOUT_FILENO, b"h");
+    io::write_all(STDOUT, b"h");
     print_words(h);
-    io::write_all(STDOUT_FILENO, b"\nabc ");
+    io::write_all(STDOUT, b"\nabc ");
     print_word_bytes(h);
-    io::write_all(STDOUT_FILENO, b"\n");
+    io::write_all(STDOUT, b"\n");
 }
 
 // The one block of "abc" through F, with 64 and not 32 for the digest length in the parameter word.
@@ -47,22 +48,22 @@ fn abc() -> [u64; 8] {
 fn digest_line(s: [u8; 1000], n: usize)
     requires { n ≤ 1000 }
 {
-    io::print_decimal(STDOUT_FILENO, n as u64);
-    io::write_all(STDOUT_FILENO, b" ");
+    io::print_decimal(STDOUT, n as u64);
+    io::write_all(STDOUT, b" ");
     let d = blake2b_hash::digest(&s[..n]);
     print_bytes(&d);
-    io::write_all(STDOUT_FILENO, b"\n");
+    io::write_all(STDOUT, b"\n");
 }
 
 fn steps_line(s: [u8; 1000], n: usize)
     requires { n ≤ 1000 }
 {
-    io::write_all(STDOUT_FILENO, b"steps ");
-    io::print_decimal(STDOUT_FILENO, n as u64);
-    io::write_all(STDOUT_FILENO, b" ");
+    io::write_all(STDOUT, b"steps ");
+    io::print_decimal(STDOUT, n as u64);
+    io::write_all(STDOUT, b" ");
     let d = run(&s[..n]);
     print_bytes(&d);
-    io::write_all(STDOUT_FILENO, b"\n");
+    io::write_all(STDOUT, b"\n");
 }
 
 // The digest by a running hash: a step for each block before the last, then the rest.
@@ -98,7 +99,7 @@ fn counting() -> [u8; 1000] {
 
 fn print_bytes(s: &[u8]) {
     for i in 0..s.len() {
-        io::print_hex(STDOUT_FILENO, wide(s[i]), 2);
+        io::print_hex(STDOUT, wide(s[i]), 2);
     }
 }
 
@@ -113,12 +114,12 @@ fn print_words(h: [u64; 8]) {
 }
 
 fn print_word(x: u64) {
-    io::write_all(STDOUT_FILENO, b" ");
-    io::print_hex(STDOUT_FILENO, x, 16);
+    io::write_all(STDOUT, b" ");
+    io::print_hex(STDOUT, x, 16);
 }
 
 fn print_word_bytes(h: [u64; 8]) {
     for i in 0..64 {
-        io::print_hex(STDOUT_FILENO, (h[i / 8] >> (8 * (i % 8))) % 256, 2);
+        io::print_hex(STDOUT, (h[i / 8] >> (8 * (i % 8))) % 256, 2);
     }
 }

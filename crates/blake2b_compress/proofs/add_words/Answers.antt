@@ -1,5 +1,5 @@
 -- Four stores, each of a sum with a message word. Assumes nothing.
-use Rattle.std.proofs.Common.{◌≡◌, ℕ, ◌+◌, ◌%◌, ◌^◌, List, set, rules}
+use Rattle.std.proofs.Common.{◌≡◌, ℕ, ◌+◌, ◌%◌, ◌^◌, List, set}
 use Rattle.blake2b.specs.Blake2b.{w, ◌!◌}
 use Rattle.blake2b_compress.specs.Parts.{add_words}
 use Rattle.blake2b_compress.proofs.add_words.Goals as goal
@@ -14,5 +14,5 @@ stores v x0 x1 x2 x3 s t u y es et eu ey = cc
 
 pub returns : goal.returns
 returns c =
-    stores _ _ _ _ _ _ _ _ _ c.wrapping_add_u64.ensures c.wrapping_add_u64-2.ensures
-    c.wrapping_add_u64-3.ensures c.wrapping_add_u64-4.ensures
+    stores _ _ _ _ _ _ _ _ _ c.wrapping_add_u64.ensures.value c.wrapping_add_u64-2.ensures.value
+    c.wrapping_add_u64-3.ensures.value c.wrapping_add_u64-4.ensures.value

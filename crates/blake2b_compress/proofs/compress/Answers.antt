@@ -1,5 +1,4 @@
 -- F on a copy of the state. Assumes nothing.
-use Rattle.std.proofs.Common.{rules}
 use Rattle.blake2b_compress.proofs.compress.Goals as goal
 
 pub returns : goal.returns

@@ -1,5 +1,5 @@
 -- F, from its parts. Assumes nothing.
-use Rattle.std.proofs.Common.{◌≡◌, ℕ, Bool, List, sym, ap, ◌∙◌, rules}
+use Rattle.std.proofs.Common.{◌≡◌, ℕ, Bool, List, sym, ap, ◌∙◌}
 use Rattle.blake2b.specs.Blake2b.{for, round, F}
 use Rattle.blake2b_compress.specs.Parts.{work, xored}
 use Rattle.blake2b_compress.proofs.PartsLaws.{F_parts}

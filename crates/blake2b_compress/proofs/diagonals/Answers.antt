@@ -1,5 +1,5 @@
 -- Two calls for the halves, each with four words. Assumes nothing.
-use Rattle.std.proofs.Common.{◌∙◌, rules}
+use Rattle.std.proofs.Common.{◌∙◌, arith}
 use Rattle.blake2b_compress.specs.Parts.{half_diagonals}
 use Rattle.blake2b_compress.proofs.Chain.{words-halves}
 use Rattle.blake2b_compress.proofs.PartsLaws.{diagonals-halves}
@@ -12,4 +12,4 @@ returns c =
     c.select-x4.ensures c.select-x6.ensures c.half_diagonals-v.ensures
     c.select-x1.ensures c.select-x3.ensures
     c.select-x5.ensures c.select-x7.ensures c.half_diagonals.ensures
-    ∙ diagonals-halves _ _ _ (search (rules, c.well-formed.0))
+    ∙ diagonals-halves _ _ _ (omega arith)

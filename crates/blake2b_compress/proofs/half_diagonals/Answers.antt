@@ -1,5 +1,5 @@
 -- The three passes of a half in a row. Assumes nothing.
-use Rattle.std.proofs.Common.{◌∙◌, rules}
+use Rattle.std.proofs.Common.{◌∙◌}
 use Rattle.blake2b_compress.specs.Parts.{half_diagonals}
 use Rattle.blake2b_compress.proofs.half_diagonals.Goals as goal
 

@@ -1,5 +1,5 @@
 -- Two stores: the sum, and the exclusive or with it. Assumes nothing.
-use Rattle.std.proofs.Common.{◌≡◌, ℕ, ◌+◌, ◌%◌, ◌^◌, List, set, rules}
+use Rattle.std.proofs.Common.{◌≡◌, ℕ, ◌+◌, ◌%◌, ◌^◌, List, set}
 use Rattle.blake2b.specs.Blake2b.{w, ◌⊕◌, ◌!◌}
 use Rattle.blake2b_compress.specs.Parts.{half_start}
 use Rattle.blake2b_compress.proofs.half_start.Goals as goal
@@ -9,4 +9,4 @@ unfolding half_start
 stores v a b d s es = cc
 
 pub returns : goal.returns
-returns c = stores _ _ _ _ _ c.wrapping_add_u64.ensures
+returns c = stores _ _ _ _ _ c.wrapping_add_u64.ensures.value

@@ -1,5 +1,5 @@
 -- Three times four rounds are the twelve of F. Assumes nothing.
-use Rattle.std.proofs.Common.{◌≡◌, ℕ, List, sym, ap, ◌∙◌, rules}
+use Rattle.std.proofs.Common.{◌≡◌, ℕ, List, sym, ap, ◌∙◌}
 use Rattle.blake2b.specs.Blake2b.{for, round}
 use Rattle.blake2b_compress.specs.Parts.{four}
 use Rattle.blake2b_compress.proofs.PartsLaws.{rounds_fours}

@@ -1,7 +1,6 @@
 -- Four rounds, each of its columns and its diagonals. Assumes nothing.
 use Rattle.blake2b_compress.specs.Parts.{four}
 use Rattle.blake2b_compress.proofs.Chain.{rounds-four}
-use Rattle.std.proofs.Common.{rules}
 use Rattle.blake2b_compress.proofs.rounds_0_to_3.Goals as goal
 
 pub returns : goal.returns

@@ -1,7 +1,6 @@
 -- Four rounds, each of its columns and its diagonals. Assumes nothing.
 use Rattle.blake2b_compress.specs.Parts.{four}
 use Rattle.blake2b_compress.proofs.Chain.{rounds-four}
-use Rattle.std.proofs.Common.{rules}
 use Rattle.blake2b_compress.proofs.rounds_4_to_7.Goals as goal
 
 pub returns : goal.returns

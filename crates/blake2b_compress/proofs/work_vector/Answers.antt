@@ -1,5 +1,5 @@
 -- The stores are F's lines before the rounds; the counter's words are its remainder and its quotient. Assumes nothing.
-use Rattle.std.proofs.Common.{◌≡◌, ℕ, ◌+◌, ◌*◌, ◌/◌, ◌%◌, ◌^◌, ◌<◌, Bool, true, false, List, ◌++◌, set, arith, rules}
+use Rattle.std.proofs.Common.{◌≡◌, ℕ, ◌+◌, ◌*◌, ◌/◌, ◌%◌, ◌^◌, ◌<◌, Bool, true, false, List, ◌++◌, set, arith}
 use Rattle.blake2b.specs.Blake2b.{◌⊕◌, ◌!◌, IV, flagged}
 use Rattle.blake2b_compress.specs.Parts.{work}
 use Rattle.blake2b_compress.proofs.work_vector.Goals as goal

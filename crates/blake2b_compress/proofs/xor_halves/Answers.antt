@@ -1,11 +1,9 @@
 -- The loop is the RFC's: after i turns it has done its first i. Assumes nothing.
-use Rattle.std.proofs.Common.{◌≡◌, ℕ, ◌+◌, ◌-◌, ◌≤◌, List, length, set, refl, ap, ◌∙◌, add-one, arith, length-set}
+use Rattle.std.proofs.Common.{◌≡◌, ℕ, ◌+◌, List, set, refl, ap, ◌∙◌, add-one, arith, length-set}
 use Rattle.blake2b.specs.Blake2b.{◌⊕◌, ◌!◌, for}
 use Rattle.blake2b_compress.specs.Parts.{xored}
+use Rattle.blake2b_compress.proofs.xor_halves.Invariants.{turns}
 use Rattle.blake2b_compress.proofs.xor_halves.Goals as goal
-
-turns : List ℕ → List ℕ → ℕ → List ℕ
-turns h v i = for i (λ i h. set h i (h ! i ⊕ v ! i ⊕ v ! (i + 8))) h
 
 more : (h₀ h v : List ℕ) (i : ℕ) → h ≡ turns h₀ v i → set h i (h ! i ⊕ v ! i ⊕ v ! (i + 8)) ≡ turns h₀ v (i + 1)
 unfolding turns for

@@ -1,5 +1,5 @@
 -- The first four bytes of the digest. Assumes nothing.
-use Rattle.std.proofs.Common.{◌≡◌, ℕ, List, [], ◌∷◌, length, take, sym, ap, ◌∙◌, arith, rules}
+use Rattle.std.proofs.Common.{◌≡◌, ℕ, List, [], ◌∷◌, length, take, sym, ap, ◌∙◌, arith}
 use Rattle.blake2b.specs.Blake2b.{◌!◌}
 use Rattle.blake2b.proofs.ElementsLaws.{whole}
 use Rattle.blake2b_hash.proofs.check.Goals as goal

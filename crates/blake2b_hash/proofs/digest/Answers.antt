@@ -1,5 +1,5 @@
 -- A hash that is finished with the whole data right after its start. Assumes nothing.
-use Rattle.std.proofs.Common.{◌≡◌, ℕ, ◌^◌, ◌<◌, List, length, ap, ◌∙◌, lt_of_lt_of_le, arith, lit≤, rules}
+use Rattle.std.proofs.Common.{◌≡◌, ℕ, ◌^◌, ◌<◌, List, length, ap, ◌∙◌, lt_of_lt_of_le, arith, lit≤}
 use Rattle.blake2b_hash.specs.declared.Hash.{Hash}
 use Rattle.blake2b.specs.Blake2b.{ll_bound, blake2b}
 use Rattle.blake2b_hash.specs.Running.{started, finished}

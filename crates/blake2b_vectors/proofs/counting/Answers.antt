@@ -1,8 +1,6 @@
 -- The loop's invariant: i is at most 1,000, and the array keeps its length. Assumes nothing.
-use mathlib.Core.Path.{◌≡◌}
-use Prim.Native.Nat.{◌≤◌, ◌-◌}
 use native.Mathlib.Omega.{arith}
-use lib.ListN.{length, length-set}
+use lib.ListN.{length-set}
 use Rattle.blake2b_vectors.proofs.counting.Goals as goal
 
 pub loop-i-preserved : goal.loop-i-preserved

@@ -1,8 +1,7 @@
 -- The loop's invariant: i is at most 1,000, and the array keeps its length. Assumes nothing.
 use mathlib.Core.Path.{◌≡◌}
 use Prim.Native.Nat.{◌≤◌, ◌-◌}
-use native.Mathlib.Omega.{arith}
-use lib.ListN.{length, length-set}
+use lib.ListN.{length}
 use Rattle.blake2b_vectors.proofs.counting.Given as goal
 
 abbrev pub invariant-loop-i : goal.invariant-loop-i

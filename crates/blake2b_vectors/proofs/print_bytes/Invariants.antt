@@ -1,7 +1,6 @@
 -- The loop's invariant: i is at most the length. Assumes nothing.
 use mathlib.Core.Path.{◌≡◌}
 use Prim.Native.Nat.{◌≤◌, ◌-◌}
-use native.Mathlib.Omega.{arith}
 use lib.ListN.{length}
 use Rattle.blake2b_vectors.proofs.print_bytes.Given as goal
 

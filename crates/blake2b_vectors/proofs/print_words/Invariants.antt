@@ -1,6 +1,5 @@
 -- The loop's invariant: i is at most 8. Assumes nothing.
 use Prim.Native.Nat.{◌≤◌, ◌-◌}
-use native.Mathlib.Omega.{arith}
 use Rattle.blake2b_vectors.proofs.print_words.Given as goal
 
 abbrev pub invariant-loop-i : goal.invariant-loop-i

@@ -1,6 +1,5 @@
 -- The loop's invariant: the place is inside. Assumes nothing.
 use Prim.Native.Nat.{◌≤◌, ◌-◌}
-use native.Mathlib.Omega.{arith}
 use lib.ListN.{length}
 use Rattle.blake2b_vectors.proofs.run.Given as goal
 

@@ -1,5 +1,5 @@
 -- The entry read is SIGMA's, and so below 16. Assumes nothing.
-use Rattle.std.proofs.Common.{ℕ, ap, arith, rules}
+use Rattle.std.proofs.Common.{ℕ, ap, arith}
 use Rattle.blake2b.specs.Blake2b.{◌!◌}
 use Rattle.blake2b_compress.specs.Parts.{selected}
 use Rattle.blake2b_compress.proofs.Order.{below, entry}

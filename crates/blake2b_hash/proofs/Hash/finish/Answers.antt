@@ -1,5 +1,5 @@
 -- The blocks before the last, the last, and the first 32 bytes of the state. Assumes nothing.
-use Rattle.std.proofs.Common.{◌≡◌, ℕ, ◌-◌, List, length, take, arith, rules}
+use Rattle.std.proofs.Common.{◌≡◌, ℕ, ◌-◌, List, length, take, arith}
 use Rattle.blake2b_hash.specs.declared.Hash.{Hash}
 use Rattle.blake2b.specs.Blake2b.{dd, unwords}
 use Rattle.blake2b.proofs.Blake2bLaws.{dd-before}

@@ -1,5 +1,5 @@
 -- The state before the first block, with the digest length in the parameter word, and nothing counted. Assumes nothing.
-use Rattle.std.proofs.Common.{ℕ, List, set, ap, rules}
+use Rattle.std.proofs.Common.{ℕ, List, set, ap}
 use Rattle.blake2b.specs.Blake2b.{◌⊕◌, ◌!◌, p, h0}
 use Rattle.blake2b_hash.specs.Running.{hash, started}
 use Rattle.blake2b_hash.proofs.Hash.start.Goals as goal

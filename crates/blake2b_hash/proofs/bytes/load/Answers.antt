@@ -1,5 +1,5 @@
 -- The loop's invariant: the first i words are the block's. Assumes nothing.
-use Rattle.std.proofs.Common.{◌≡◌, ℕ, ◌+◌, ◌-◌, ◌*◌, ◌<◌, ◌≤◌, List, take, drop, set, sym, refl, ap, ◌∙◌, arith}
+use Rattle.std.proofs.Common.{◌≡◌, ℕ, ◌+◌, ◌*◌, ◌<◌, List, take, drop, set, sym, refl, ap, ◌∙◌, arith}
 use lib.Seq.{take-length}
 use Rattle.blake2b.specs.Blake2b.{word, words}
 use Rattle.blake2b_hash.proofs.Blocks.{length-words, words-at}

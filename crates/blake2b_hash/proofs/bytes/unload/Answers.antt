@@ -1,5 +1,5 @@
 -- The loop's invariant: the first i bytes are the state's. Assumes nothing.
-use Rattle.std.proofs.Common.{◌≡◌, ℕ, ◌+◌, ◌-◌, ◌*◌, ◌/◌, ◌%◌, ◌<◌, ◌≤◌, List, length, set, sym, refl, ap, ◌∙◌, arith}
+use Rattle.std.proofs.Common.{◌≡◌, ℕ, ◌+◌, ◌*◌, ◌/◌, ◌%◌, ◌<◌, List, length, set, sym, refl, ap, ◌∙◌, arith}
 use Rattle.blake2b.specs.Blake2b.{◌!◌, bytes, unwords}
 use Rattle.blake2b.proofs.CheckLaws.{length-unwords}
 use Rattle.blake2b_hash.proofs.Blocks.{unwords-at}

@@ -1,5 +1,5 @@
 -- Eight bytes as a word, from four and four. Assumes nothing.
-use Rattle.std.proofs.Common.{arith, rules}
+use Rattle.std.proofs.Common.{arith}
 use Rattle.blake2b_hash.proofs.Blocks.{word-twice}
 use Rattle.blake2b_hash.proofs.bytes.word_at.Goals as goal
 
