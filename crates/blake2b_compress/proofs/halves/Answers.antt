@@ -1,11 +1,6 @@
 -- The loop's invariant: both halves have their first i words. Assumes nothing.
-<<<<<<< HEAD
-use Rattle.std.proofs.Common.{◌≡◌, ℕ, ◌-◌, ◌≤◌, List, ◌++◌, length, refl, ◌∙◌, ap₂, arith, take_all}
-use Rattle.blake2b.proofs.FilledLaws.{filled, filled-both, filled-all}
-=======
 use Rattle.std.proofs.Common.{◌≡◌, ℕ, List, ◌++◌, length, refl, ◌∙◌, ap₂, arith, take_all}
 use Rattle.blake2b.proofs.FilledLaws.{filled, filled-both, filled-all}
->>>>>>> 6e95be337c793ef35e9622620c25587583701b54
 use Rattle.blake2b_compress.proofs.halves.Goals as goal
 
 all : (h k v : List ℕ) (i : ℕ) → length h ≡ 8 → length k ≡ 8 → i ≡ 8 → v ≡ filled 8 h i ++ filled 8 k i → v ≡ h ++ k

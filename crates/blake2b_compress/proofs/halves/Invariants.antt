@@ -1,11 +1,6 @@
 -- The loop's invariant: both halves have their first i words. Assumes nothing.
-<<<<<<< HEAD
-use Rattle.std.proofs.Common.{◌≡◌, ℕ, ◌-◌, ◌≤◌, List, ◌++◌, length, refl, ◌∙◌, ap₂, arith, take_all}
-use Rattle.blake2b.proofs.FilledLaws.{filled, filled-both, filled-all}
-=======
 use Rattle.std.proofs.Common.{◌≡◌, ◌-◌, ◌≤◌, ◌++◌}
 use Rattle.blake2b.proofs.FilledLaws.{filled}
->>>>>>> 6e95be337c793ef35e9622620c25587583701b54
 use Rattle.blake2b_compress.proofs.halves.Given as goal
 
 abbrev pub invariant-loop-i : goal.invariant-loop-i

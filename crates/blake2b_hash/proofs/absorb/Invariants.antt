@@ -1,14 +1,7 @@
 -- The loop's invariant: after i turns the first i blocks are absorbed. Assumes nothing.
 use Rattle.std.proofs.Common.{◌≡◌, ℕ, ◌-◌, ◌≤◌, List}
 use Rattle.blake2b_hash.specs.declared.Hash.{Hash}
-<<<<<<< HEAD
-use Rattle.blake2b.specs.Blake2b.{bb, for, words}
-use Rattle.blake2b.proofs.Blake2bLaws.{d-whole}
-use Rattle.blake2b_hash.specs.Running.{advanced, absorbed}
-use Rattle.blake2b_hash.proofs.Counter.{advanced-words}
-=======
 use Rattle.blake2b_hash.specs.Running.{absorbed}
->>>>>>> 6e95be337c793ef35e9622620c25587583701b54
 use Rattle.blake2b_hash.proofs.absorb.Given as goal
 
 abbrev pub hash : List ℕ → ℕ → ℕ → Hash

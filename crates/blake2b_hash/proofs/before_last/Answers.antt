@@ -1,11 +1,6 @@
 -- The number of blocks before the last. Assumes nothing.
-<<<<<<< HEAD
-use Rattle.std.proofs.Common.{arith, rules}
-use Rattle.blake2b.proofs.Blake2bLaws.{dd-before}
-=======
 use Rattle.std.proofs.Common.{arith}
 use Rattle.blake2b.proofs.Blake2bLaws.{dd-before}
->>>>>>> 6e95be337c793ef35e9622620c25587583701b54
 use Rattle.blake2b_hash.proofs.before_last.Goals as goal
 
 pub returns-then-n-eq0 : goal.returns-then-n-eq0

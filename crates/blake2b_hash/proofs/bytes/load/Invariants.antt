@@ -1,15 +1,7 @@
 -- The loop's invariant: the first i words are the block's. Assumes nothing.
-<<<<<<< HEAD
-use Rattle.std.proofs.Common.{◌≡◌, ℕ, ◌+◌, ◌-◌, ◌*◌, ◌<◌, ◌≤◌, List, take, drop, set, sym, refl, ap, ◌∙◌, arith}
-use lib.Seq.{take-length}
-use Rattle.blake2b.specs.Blake2b.{word, words}
-use Rattle.blake2b_hash.proofs.Blocks.{length-words, words-at}
-use Rattle.blake2b.proofs.FilledLaws.{filled, filled_more, filled-all}
-=======
 use Rattle.std.proofs.Common.{◌≡◌, ◌-◌, ◌≤◌, drop}
 use Rattle.blake2b.specs.Blake2b.{words}
 use Rattle.blake2b.proofs.FilledLaws.{filled}
->>>>>>> 6e95be337c793ef35e9622620c25587583701b54
 use Rattle.blake2b_hash.proofs.bytes.load.Given as goal
 
 abbrev pub invariant-loop-i : goal.invariant-loop-i
