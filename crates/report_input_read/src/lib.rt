@@ -20,7 +20,8 @@ enum Turn {
     Over(Input),
 }
 
-// Stores what is read from the start of the buffer on, until that is full or the input ends. Where a read fails, what came before it counts for nothing.
+// Stores what is read from the start of the buffer on, until that is full or the input ends.
+// Where a read fails, what came before it counts for nothing.
 pub fn read_input<R: Read>(input: &mut R, buf: &mut [u8]) -> Input
     ensures { Stored result buf.new }
 {

@@ -1,4 +1,5 @@
--- `report_input_read::after` meets its contract: an answer below 0 is a failed read, 0 the end of the input, and otherwise it counts bytes.
+-- `report_input_read::after` meets its contract: an answer below 0 is a failed read, 0 the end of the input,
+-- and otherwise it counts bytes.
 use Prim.Native.Nat.{ℕ, zero, suc, ◌+◌, min}
 use native.Mathlib.Omega.{arith}
 use mathlib.Core.Bool.{true, false, true≢false}

@@ -1,4 +1,5 @@
--- `report_input_read::read_input` is safe and ends: each read after which the reading goes on stores some bytes, within the buffer.
+-- `report_input_read::read_input` is safe and ends: each read after which the reading goes on stores some bytes,
+-- within the buffer.
 use Prim.Native.Nat.{ℕ, ◌<◌, ◌≤◌}
 use native.Mathlib.Omega.{arith}
 use mathlib.Core.List.{List}
