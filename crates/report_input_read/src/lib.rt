@@ -4,6 +4,8 @@
 ghost use Rattle.std.specs.Prelude.{◌≡◌, ◌+◌, ◌<◌, ◌^◌, min, length};
 ghost use Rattle.report_input_read.specs.Input.{Stored, Within, turn_after};
 
+use std::io::Read;
+
 // How many bytes were stored, or that a read failed.
 #[derive(Clone, Copy)]
 pub enum Input {
@@ -18,13 +20,14 @@ enum Turn {
     Over(Input),
 }
 
-// Stores what is read from the start of the buffer on, until that is full or the input ends. Where a read fails, what came before it counts for nothing.
-pub fn read_input(fd: i32, buf: &mut [u8]) -> Input
+// Stores what is read from the start of the buffer on, until that is full or the input ends.
+// Where a read fails, what came before it counts for nothing.
+pub fn read_input<R: Read>(input: &mut R, buf: &mut [u8]) -> Input
     ensures { Stored result buf.new }
 {
     let mut done = 0;
     while done < buf.len() {
-        let turn = read_at(fd, buf, done);
+        let turn = read_at(input, buf, done);
         match turn {
             Turn::On(n) => {
                 done = n;
@@ -36,12 +39,15 @@ pub fn read_input(fd: i32, buf: &mut [u8]) -> Input
 }
 
 // One read of at most 4,096 bytes, stored from a place of the buffer on.
-fn read_at(fd: i32, buf: &mut [u8], done: usize) -> Turn
+fn read_at<R: Read>(input: &mut R, buf: &mut [u8], done: usize) -> Turn
     requires { done < length buf.old }
     ensures { Within result done (length buf.old) }
 {
     let asked = least(buf.len() - done, 4096);
-    let got = libc::read(fd, &mut buf[done..done + asked]);
+    let got = match input.read(&mut buf[done..done + asked]) {
+        Ok(n) => n as isize,
+        Err(_) => -1,
+    };
     after(got, done, asked)
 }
 

@@ -1,6 +1,6 @@
 -- What the encoders and the decoders need, once for every width.
--- A signed value is read back from its bits, as `to_z w (of_z w n)`, which is n since n fits. Below 0 the encoder's -1 - n is `mag n`,
--- and the decoder's -1 - h is -(h + 1).
+-- A signed value is read back from its bits, as `to_z w (of_z w n)`, which is n since n fits.
+-- Below 0 the encoder's -1 - n is `mag n`, and the decoder's -1 - h is -(h + 1).
 use Prim.Native.Nat.{ℕ, zero, suc, ◌+◌, ◌*◌, ◌/◌, ◌%◌, ◌^◌, ◌<◌}
 use mathlib.Core.Bool.{true, false, true≢false}
 use mathlib.Core.Path.{◌≡◌, refl, ap, sym, ◌∙◌, subst}

@@ -1,5 +1,5 @@
--- `report_input_read::after` meets its contract: an answer below 0 is a failed read, 0 the end of the input, and otherwise it counts bytes.
--- an answer g, read back from its bits as y
+-- `report_input_read::after` meets its contract: an answer below 0 is a failed read, 0 the end of the input,
+-- and otherwise it counts bytes.
 use Prim.Native.Nat.{ℕ, zero, suc, ◌+◌, min}
 use native.Mathlib.Omega.{arith}
 use mathlib.Core.Bool.{true, false, true≢false}
@@ -10,13 +10,13 @@ use lib.Signed.{lt_z, non_neg}
 use mir.Syntax.{w64}
 use mir.Val.{Fits, SFits, to_z, of_z}
 use mir.ValLaws.{pow-bits, to_z-of_z}
-use borrow.Author.Rules.{rules}
 use borrow.Author.Tests.{ltb-true}
 use Rattle.report_input_read.specs.declared.Input.TheVariants.{Bytes, Failed}
 use Rattle.report_input_read.specs.declared.Turn.TheVariants.{On, Over}
 use Rattle.report_input_read.specs.Input.{turn_of, turn_after}
 use Rattle.report_input_read.proofs.after.Goals as goal
 
+-- an answer g, read back from its bits as y
 abbrev Failing : ℤ → Type 0
 Failing g = (done asked : ℕ) → Over Failed ≡ turn_after g done asked
 
@@ -50,17 +50,14 @@ unfolding turn_of
 on done zero h = absurd (h refl)
 on done (suc n) h = refl
 
-counted : (c : tie.Else1) → Counting c.before.args.got (to_z w64 (of_z w64 c.before.args.got))
-counted c = counting _ c.before.ranges.got c.if1.false
-
 pub returns-then-got-lt0 : goal.returns-then-got-lt0
 returns-then-got-lt0 c = failing _ c.ranges.got c.if-got-lt0.true c.args.done c.args.asked
 
 pub overflow_cast-got : goal.overflow_cast-got
-overflow_cast-got c = (counted c).cast
+overflow_cast-got c = (counting _ c.ranges.got c.if-got-lt0.false).cast
 
 pub returns-then-n-eq0 : goal.returns-then-n-eq0
-returns-then-n-eq0 c = sym ((counted c).turn c.args.done c.args.asked ∙ ap (turn_of c.args.done) (sym c.least-n.ensures) ∙ ended c.args.done c.least-n.result c.if-n-eq0.true)
+returns-then-n-eq0 c = sym ((counting _ c.ranges.got c.if-got-lt0.false).turn c.args.done c.args.asked ∙ ap (turn_of c.args.done) (sym c.least-n.ensures) ∙ ended c.args.done c.least-n.result c.if-n-eq0.true)
 
 pub returns : goal.returns
-returns c = sym ((counted c).turn c.args.done c.args.asked ∙ ap (turn_of c.args.done) (sym c.least-n.ensures) ∙ on c.args.done c.least-n.result c.if-n-eq0.false)
+returns c = sym ((counting _ c.ranges.got c.if-got-lt0.false).turn c.args.done c.args.asked ∙ ap (turn_of c.args.done) (sym c.least-n.ensures) ∙ on c.args.done c.least-n.result c.if-n-eq0.false)

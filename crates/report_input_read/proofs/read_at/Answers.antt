@@ -2,7 +2,6 @@
 use Prim.Native.Nat.{ℕ, zero, suc, ◌+◌, ◌≤◌, min}
 use native.Mathlib.Omega.{arith}
 use lib.IntN.{ℤ, pos, negsuc}
-use borrow.Author.Rules.{rules}
 use Rattle.report_input_read.specs.Input.{turn_of, turn_after, Within}
 use Rattle.report_input_read.proofs.read_at.Goals as goal
 
@@ -17,4 +16,4 @@ within (pos k) done asked size h = turn-within done (min k asked) size (omega ar
 within (negsuc k) done asked size h = tt
 
 pub returns : goal.returns
-returns c = rw c.after.ensures (within _ _ _ _ (omega (arith, c.least-asked.ensures)))
+returns g c = rw c.after.ensures (within _ _ _ _ (omega (arith, c.least-asked.ensures)))

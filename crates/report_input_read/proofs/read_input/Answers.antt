@@ -1,5 +1,6 @@
--- `report_input_read::read_input` is safe and ends: each read after which the reading goes on stores some bytes, within the buffer.
-use Prim.Native.Nat.{ℕ, ◌-◌, ◌<◌, ◌≤◌}
+-- `report_input_read::read_input` is safe and ends: each read after which the reading goes on stores some bytes,
+-- within the buffer.
+use Prim.Native.Nat.{ℕ, ◌<◌, ◌≤◌}
 use native.Mathlib.Omega.{arith}
 use mathlib.Core.List.{List}
 use mathlib.Core.Path.{◌≡◌, refl, sym}
@@ -24,16 +25,16 @@ over-stored : (t : Turn) (i : Input) (done size : ℕ) (buf : List ℕ) → t �
 over-stored t i done size buf e h = stored i done size buf (rw e at h)
 
 pub loop-done-init : goal.loop-done-init
-loop-done-init c = (refl, omega arith)
+loop-done-init g c = (refl, omega arith)
 
 pub loop-done-smaller : goal.loop-done-smaller
-loop-done-smaller c = let m = goes_on _ _ _ _ c.in-On.is c.read_at-turn.ensures in omega (arith, m.0, m.1)
+loop-done-smaller g c = let m = goes_on _ _ _ _ c.in-On.is c.read_at-turn.ensures in omega (arith, m.0, m.1)
 
 pub loop-done-preserved : goal.loop-done-preserved
-loop-done-preserved c = let m = goes_on _ _ _ _ c.in-On.is c.read_at-turn.ensures in (search rules, omega (arith, m.1))
+loop-done-preserved g c = let m = goes_on _ _ _ _ c.in-On.is c.read_at-turn.ensures in (search rules, omega (arith, m.1))
 
 pub returns-in-Over : goal.returns-in-Over
-returns-in-Over c = over-stored _ _ _ _ _ c.in-Over.is c.read_at-turn.ensures (search rules)
+returns-in-Over g c = over-stored _ _ _ _ _ c.in-Over.is c.read_at-turn.ensures (search rules)
 
 pub returns : goal.returns
-returns c = (c.loop-done.invariant.1, sym (length-take-le _ _ c.loop-done.invariant.1))
+returns g c = (c.loop-done.invariant.1, sym (length-take-le _ _ c.loop-done.invariant.1))

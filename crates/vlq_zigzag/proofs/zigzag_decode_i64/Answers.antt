@@ -1,4 +1,4 @@
--- `vlq_zigzag::zigzag_decode_i64` decodes as zigzagDecode does: the laws of `proofs/Widths.antt` on halves.
+-- `vlq_zigzag::zigzag_decode_i64` decodes as zigzag_decode does: the laws of `proofs/Widths.antt` on halves.
 use mir.Syntax.{w64}
 use Rattle.vlq_zigzag.proofs.Widths.{half, minus_fits, even, odd}
 use Rattle.vlq_zigzag.proofs.zigzag_decode_i64.Goals as goal

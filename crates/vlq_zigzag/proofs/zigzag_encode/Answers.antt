@@ -1,4 +1,4 @@
--- `vlq_zigzag::zigzag_encode` encodes as zigzag_encode does: the i64 is the i32, and the encoding of an i32 fits a u32.
+-- `vlq_zigzag::zigzag_encode` encodes as zigzag_encode does: the i64 is the i32, and its encoding fits a u32.
 use mathlib.Core.Path.{◌≡◌, sym, ap, ◌∙◌, subst}
 use mir.Syntax.{w32, w64}
 use mir.Val.{Fits}

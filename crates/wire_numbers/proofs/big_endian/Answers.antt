@@ -1,8 +1,6 @@
 -- `wire_numbers::big_endian` meets its contract. The loop's invariant and what follows from it stand in `NumberLaws`.
-use Prim.Native.Nat.{◌-◌}
 use native.Mathlib.Omega.{arith}
-use borrow.Author.Tests.{ltb-true, ltb-false}
-use Rattle.wire_numbers.proofs.NumberLaws.{NumberSoFar, number-start, number_fits, number_again, number-end, number-all}
+use Rattle.wire_numbers.proofs.NumberLaws.{number-start, number_fits, number_again, number-end, number-all}
 use Rattle.wire_numbers.proofs.big_endian.Goals as goal
 
 pub loop-i-init : goal.loop-i-init

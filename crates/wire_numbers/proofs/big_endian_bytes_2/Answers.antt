@@ -1,5 +1,4 @@
 -- `wire_numbers::big_endian_bytes_2` meets its contract: the two bytes are the definition's.
-use borrow.Author.Rules.{rules}
 use Rattle.wire.specs.Bytes.{big_endian_bytes}
 use Rattle.wire_numbers.proofs.NumberLaws.{lowest}
 use Rattle.wire_numbers.proofs.big_endian_bytes_2.Goals as goal
