@@ -130,6 +130,7 @@ module _ (network : Network) (cap least : ℕ) (readers : ReaderLaws Content (ha
 
   reads-session : {ws : List Write} → Accepted ws → HandshakeFirst ws → ReadsAs (map write_value ws) (session_reading network cap (all_bytes ws))
   unfolding session_reading reading all_bytes flat_map
+  reads-session none x = elim x [ ]
   reads-session (more {w = w} {ws = ws} out p end t q a) (first m ms) =
       let bs : List ℕ = write_bytes network cap w in
       let s : List ℕ = bs ++ all_bytes ws in
