@@ -1,7 +1,6 @@
 -- `handshake_address_read::address_of` meets its contract: the numbers are those of the address's bytes.
 use Prim.Native.Nat.{◌+◌}
 use native.Mathlib.Omega.{arith}
-use borrow.Author.Rules.{rules}
 use Rattle.wire_numbers.specs.PartLaws.{number-part}
 use Rattle.handshake_address_read.proofs.AddressLaws.{address-v4, address-v6, address-none}
 use Rattle.handshake_address_read.proofs.address_of.Goals as goal

@@ -5,7 +5,6 @@ use Rattle.vlq.specs.Answers.{byte_answer, vlq_answer, part_answer}
 use Rattle.wire.specs.Reader.{part_of}
 use Rattle.handshake.specs.Entry.{address}
 use Rattle.handshake_address_read.proofs.AddressLaws.{address_inside, address_read}
-use borrow.Author.Rules.{rules}
 use Rattle.handshake_address_read.proofs.read_address.Goals as goal
 
 pub address_of-a-requires : goal.address_of-a-requires

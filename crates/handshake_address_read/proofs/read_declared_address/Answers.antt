@@ -4,7 +4,6 @@ use Rattle.vlq.specs.Answers.{byte_answer}
 use borrow.Author.Tests.{eq-eqb, ne_eqb}
 use Rattle.handshake.specs.Entry.{address_if}
 use Rattle.handshake_address_read.specs.DeclaredAddress.{declared_address}
-use borrow.Author.Rules.{rules}
 use Rattle.handshake_address_read.proofs.read_declared_address.Goals as goal
 
 pub returns-then-flag-eq0 : goal.returns-then-flag-eq0

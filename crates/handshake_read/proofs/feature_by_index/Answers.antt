@@ -4,7 +4,6 @@ use Rattle.wire.proofs.ReaderLaws.{map-got, map-refused, map-refusal}
 use Rattle.handshake_read.specs.Answers.{peer_spec_of, entry_answer, features_ended, features_end_answer}
 use Rattle.handshake_read.specs.Parts.{feature_at}
 use Rattle.handshake_read.proofs.IndexLaws.{index-outside, index-inside, index-refused}
-use borrow.Author.Rules.{rules}
 use Rattle.handshake_read.proofs.feature_by_index.Goals as goal
 
 pub returns-then-features-index : goal.returns-then-features-index

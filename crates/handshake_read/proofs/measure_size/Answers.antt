@@ -2,7 +2,6 @@
 use mathlib.Core.Path.{sym, ap, ◌∙◌}
 use Rattle.wire.proofs.ReaderLaws.{map-got, map-refused}
 use Rattle.handshake_read.specs.Answers.{handshake_of, handshake_answer}
-use borrow.Author.Rules.{rules}
 use Rattle.handshake_read.proofs.measure_size.Goals as goal
 
 pub returns-in-Value : goal.returns-in-Value

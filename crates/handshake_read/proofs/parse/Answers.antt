@@ -4,7 +4,6 @@ use Rattle.wire.proofs.ReaderLaws.{map-got, map-refused, map-value, map-refusal}
 use Rattle.vlq.specs.Answers.{vlq_answer}
 use Rattle.handshake.specs.Entry.{handshake}
 use Rattle.handshake_read.specs.Answers.{peer_spec_of, entry_answer}
-use borrow.Author.Rules.{rules}
 use Rattle.handshake_read.proofs.parse.Goals as goal
 
 pub returns-in-Value-parse_peer_entry : goal.returns-in-Value-parse_peer_entry

@@ -4,7 +4,6 @@ use Rattle.wire.proofs.ReaderLaws.{map-got, map-refused, map-value, map-refusal}
 use Rattle.handshake_read.proofs.AnswerLaws.{peer-read}
 use Rattle.handshake_read.proofs.PartsLaws.{entry_parts_lem}
 use Rattle.handshake_read.specs.Answers.{head_of, head_answer, features_of, features_answer}
-use borrow.Author.Rules.{rules}
 use Rattle.handshake_read.proofs.parse_peer_entry.Goals as goal
 
 pub returns-in-Value-read_features : goal.returns-in-Value-read_features

@@ -4,7 +4,6 @@ use Rattle.wire.specs.Reader.{part_of}
 use Rattle.wire.proofs.ReaderLaws.{map-got, map-refused, map-value, map-refusal}
 use Rattle.vlq.specs.Answers.{byte_answer, vlq_answer, part_answer}
 use Rattle.handshake.specs.Entry.{feature}
-use borrow.Author.Rules.{rules}
 use Rattle.handshake_read.proofs.read_feature.Goals as goal
 
 pub returns-in-Value-read_part : goal.returns-in-Value-read_part

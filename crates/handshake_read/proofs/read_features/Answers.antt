@@ -5,7 +5,6 @@ use Rattle.wire.proofs.ListOfLaws.{listed}
 use Rattle.vlq.specs.Answers.{byte_answer}
 use Rattle.handshake_read.specs.Parts.{features}
 use Rattle.handshake_read.specs.Answers.{features_ended, features_end_answer}
-use borrow.Author.Rules.{rules}
 use Rattle.handshake_read.proofs.read_features.Goals as goal
 
 pub returns-in-Value-skip_features : goal.returns-in-Value-skip_features

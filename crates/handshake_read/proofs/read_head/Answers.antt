@@ -6,7 +6,6 @@ use Rattle.wire.specs.Reader.{part_of}
 use Rattle.handshake_read.specs.Parts.{head}
 use Rattle.handshake_address_read.specs.Answers.{address_answer}
 use Rattle.handshake_read.specs.Answers.{version_answer}
-use borrow.Author.Rules.{rules}
 use Rattle.handshake_read.proofs.read_head.Goals as goal
 
 pub returns-in-Value-read_declared_address : goal.returns-in-Value-read_declared_address

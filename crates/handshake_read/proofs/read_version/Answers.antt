@@ -2,7 +2,6 @@
 use mathlib.Core.Path.{sym}
 use native.Mathlib.Omega.{arith}
 use Rattle.handshake_read.proofs.AnswerLaws.{version-got, version_missing, version-outside}
-use borrow.Author.Rules.{rules}
 use Rattle.handshake_read.proofs.read_version.Goals as goal
 
 pub returns-then-s-at : goal.returns-then-s-at

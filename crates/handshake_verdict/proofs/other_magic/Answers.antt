@@ -5,7 +5,6 @@ use Rattle.wire.specs.Bytes.{same_bytes}
 use Rattle.handshake_verdict.specs.Answers.{found}
 use Rattle.handshake_verdict.proofs.FoundLaws.{found_at, found_none}
 use Rattle.handshake_verdict.proofs.VerdictLaws.{magic-none, magic-short, magic-asked}
-use borrow.Author.Rules.{rules}
 use Rattle.handshake_verdict.proofs.other_magic.Goals as goal
 
 pub returns-then-f-lt4 : goal.returns-then-f-lt4

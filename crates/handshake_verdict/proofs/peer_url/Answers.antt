@@ -4,7 +4,6 @@ use Rattle.handshake_verdict.specs.Answers.{found}
 use Rattle.handshake_verdict.specs.Peer.{entry_in}
 use Rattle.handshake_verdict.proofs.FoundLaws.{found_at, found_none}
 use Rattle.handshake_verdict.proofs.UrlLaws.{url-at, url-none}
-use borrow.Author.Rules.{rules}
 use Rattle.handshake_verdict.proofs.peer_url.Goals as goal
 
 pub read_url-requires : goal.read_url-requires

@@ -2,7 +2,6 @@
 use mathlib.Core.Path.{sym, ◌∙◌}
 use Rattle.handshake_verdict.specs.Peer.{entry_in}
 use Rattle.handshake_verdict.proofs.VerdictLaws.{below-min, verdict-0, verdict_1, verdict_2}
-use borrow.Author.Rules.{rules}
 use Rattle.handshake_verdict.proofs.peer_verdict.Goals as goal
 
 pub returns-then-lt : goal.returns-then-lt

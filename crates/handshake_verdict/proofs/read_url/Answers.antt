@@ -6,7 +6,6 @@ use Rattle.wire.specs.Reader.{part_of}
 use Rattle.wire.specs.declared.Part.{Part}
 use Rattle.vlq.specs.Answers.{part_answer}
 use Rattle.handshake_verdict.proofs.UrlLaws.{url-start, url-found, url-refused}
-use borrow.Author.Rules.{rules}
 use Rattle.handshake_verdict.proofs.read_url.Goals as goal
 
 pub overflow_add-result : goal.overflow_add-result

@@ -3,7 +3,6 @@ use mathlib.Core.Path.{sym, ap, ◌∙◌}
 use Rattle.wire.proofs.ReaderLaws.{map-got, map-refused, map-value, map-refusal}
 use Rattle.handshake_read.specs.Answers.{peer_spec_of, entry_answer}
 use Rattle.handshake_verdict.proofs.PeerLaws.{entry_again}
-use borrow.Author.Rules.{rules}
 use Rattle.handshake_verdict.proofs.rest_api_url.Goals as goal
 
 pub returns-in-Value : goal.returns-in-Value
