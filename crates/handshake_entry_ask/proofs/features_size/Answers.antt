@@ -39,7 +39,7 @@ unfolding body_within
 loop-k-preserved c =
     let g = feature_from_row c.args.buffer.now in
     let f : ℕ → FeatureRow = λ i. feature_row c.args.features.now (c.args.e.first + i) in
-    let within = ap (λ c.args.buffer.now. leb (length c.args.buffer.now) limit) (sym c.part_of-body.ensures) ∙ le-leb _ _ c.if-body-gt-MAX_BODY_SIZE.false in
+    let within = ap (λ s. leb (length s) limit) (sym c.part_of-body.ensures) ∙ le-leb _ _ c.if-body-gt-MAX_BODY_SIZE.false in
     let next = ap length (bytes_next feature_bytes g f c.loop-k.k c.args.e.count c.loop-k-test.true) in
     let one : c.feature_len-m.result ≡ length (feature_bytes (g (f c.loop-k.k))) = rw (c.part_of-body.ensures) at c.feature_len-m.ensures.0 ∙ sym (length-feature c.args.buffer.now (f c.loop-k.k)) in
     let both = length-append (feature_bytes (g (f c.loop-k.k))) (flat_map feature_bytes (map g (rows f (c.loop-k.k + 1) (c.args.e.count - (c.loop-k.k + 1))))) in
