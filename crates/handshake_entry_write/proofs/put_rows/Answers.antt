@@ -19,8 +19,10 @@ pub put_entry-o-requires : goal.put_entry-o-requires
 put_entry-o-requires c =
     let l = tables c.args.entries.now c.args.features.now c.args.buffer.now in
     let row = c.entry_at-e.ensures ∙ row-there l.entries c.loop-k.k (omega arith) in
-    let e = rw row
-    (each-row_ready l c.loop-k.k (omega arith) c.requires.entries_ready, rw (own-entry l (entry_row l.entries c.loop-k.k)) (putting_room c.loop-k.invariant (omega arith))) in record { ready = e.0; e_in_bounds = e.1 }
+    record {
+      ready = rw row (each-row_ready l c.loop-k.k (omega arith) c.requires.entries_ready);
+      e_in_bounds = rw (row, own-entry l (entry_row l.entries c.loop-k.k)) (putting_room c.loop-k.invariant (omega arith));
+    }
 
 pub loop-k-preserved : goal.loop-k-preserved
 loop-k-preserved c =

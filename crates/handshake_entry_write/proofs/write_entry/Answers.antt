@@ -13,7 +13,7 @@ put_entry-requires c =
     let yes = entry-accepted l c.args.k c.args.out.now c.args.at c.ask_entry.ensures c.ask_output-answer.ensures c.in-To.is in
     let lt = entry_in-table l c.args.k c.args.out.now c.args.at c.ask_entry.ensures c.ask_output-answer.ensures c.in-To.is in
     let row = c.entry_at.ensures ∙ row-there l.entries c.args.k lt in
-    let e = rw row (yes.0, rw (own-entry l (entry_row l.entries c.args.k)) yes.1) in record { ready = e.0; e_in_bounds = e.1 }
+    record { ready = rw row yes.0; e_in_bounds = rw (row, own-entry l (entry_row l.entries c.args.k)) yes.1 }
 
 pub shape_of-out : goal.shape_of-out
 shape_of-out c = wrote_length c.put_entry.ensures
