@@ -1,5 +1,5 @@
 -- `handshake_entry_ask::features_size` meets its contract. The loop has counted the bytes of the rows before k, each with a length within the limit.
-use Prim.Native.Nat.{ℕ, ◌+◌, ◌-◌, ◌*◌, ◌≤◌}
+use Prim.Native.Nat.{ℕ, ◌+◌, ◌-◌}
 use native.Mathlib.Nat.{sub-zero}
 use native.Mathlib.Omega.{arith}
 use mathlib.Core.List.{map, flat_map}
@@ -13,7 +13,7 @@ use Rattle.vlq.specs.Vlq.{limit}
 use Rattle.handshake.specs.declared.FeatureRow.{FeatureRow}
 use Rattle.handshake.specs.Value.{feature_bytes}
 use Rattle.handshake.specs.Tables.{rows, feature_row, feature_from_row}
-use Rattle.handshake.proofs.RowsLaws.{rows-from, bytes_next, bytes-none, Passed, passed_start, passed-next, passed-not, passed-end}
+use Rattle.handshake.proofs.RowsLaws.{rows-from, bytes_next, bytes-none, passed_start, passed-next, passed-not, passed-end}
 use Rattle.handshake_entry_rows.specs.ValueLaws.{part-inside}
 use Rattle.handshake_entry_ask.specs.LengthLaws.{body_within, length-feature, within-rows}
 use Rattle.handshake_entry_ask.proofs.features_size.Goals as goal

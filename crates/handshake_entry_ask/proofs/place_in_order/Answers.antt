@@ -3,7 +3,6 @@ use mathlib.Core.Path.{sym, ap}
 use Rattle.std.proofs.Common.{arith}
 use Rattle.std.proofs.lemmas.Grind.{common_steps}
 use Rattle.std.proofs.lemmas.Bool.Decides.{nat_tests}
-use borrow.Author.Tests.{ne_eqb}
 use Rattle.wire.specs.Earliest.{position}
 use Rattle.handshake_entry_ask.specs.Asked.{row_numbers}
 use Rattle.handshake_entry_ask.proofs.place_in_order.Goals as goal

@@ -3,7 +3,6 @@ use Prim.Native.Nat.{◌-◌}
 use native.Mathlib.Omega.{arith}
 use mathlib.Core.Path.{ap, ◌∙◌}
 use lib.ListN.{length, length-set}
-use borrow.Author.Rules.{rules}
 use Rattle.wire.proofs.OutputLaws.{wrote_then, wrote_byte, wrote_length, wrote_two}
 use Rattle.handshake.specs.Tables.{bytes_at}
 use Rattle.handshake_entry_write.specs.NumbersLaws.{address-zero, address-some, address-within, length_some, kind-byte, all_bytes_lem}

@@ -1,7 +1,6 @@
 -- `handshake_entry_write::put_head` meets its contract: agent, version and name were stored one after the other.
 use native.Mathlib.Omega.{arith}
 use mathlib.Core.Path.{◌∙◌}
-use borrow.Author.Rules.{rules}
 use Rattle.wire.proofs.OutputLaws.{wrote_then, wrote_length}
 use Rattle.handshake_entry_ask.specs.Asked.{head_bytes}
 use Rattle.handshake_entry_ask.specs.LengthLaws.{length-head}

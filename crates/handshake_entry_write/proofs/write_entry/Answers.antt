@@ -1,6 +1,5 @@
 -- `handshake_entry_write::write_entry` meets its contract: every question was asked first, and the entry was stored once all held.
 use mathlib.Core.Path.{◌∙◌}
-use borrow.Author.Rules.{rules}
 use Rattle.wire.proofs.OutputLaws.{wrote_length}
 use Rattle.handshake.specs.Tables.{tables, entry_row}
 use Rattle.handshake_entry_rows.specs.ValueLaws.{row-there, own-entry}

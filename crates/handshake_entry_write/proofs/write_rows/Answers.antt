@@ -1,5 +1,4 @@
 -- `handshake_entry_write::write_rows` meets its contract: every question was asked first, and the entries were stored once all held.
-use borrow.Author.Rules.{rules}
 use Rattle.wire.proofs.OutputLaws.{wrote_length}
 use Rattle.handshake.specs.Tables.{tables}
 use Rattle.handshake_entry_write.specs.RowsLaws.{rows-accepted, rows_stored, rows-kept}

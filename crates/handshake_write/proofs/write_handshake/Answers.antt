@@ -4,7 +4,6 @@ use mathlib.Core.List.{[], ◌∷◌}
 use mathlib.Core.Path.{ap, ◌∙◌}
 use lib.ListN.{length}
 use native.Mathlib.Omega.{arith}
-use borrow.Author.Rules.{rules}
 use Rattle.wire.specs.Output.{ask}
 use Rattle.vlq.specs.Vlq.{vlq_bytes}
 use Rattle.handshake.specs.Value.{entry_bytes, handshake_bytes}
