@@ -1,6 +1,5 @@
 -- `handshake_entry_ask::add_row` meets its contract: one way for each case of its definition.
 use mathlib.Core.Path.{ap}
-use borrow.Author.Rules.{rules}
 use Rattle.wire.specs.Earliest.{together}
 use Rattle.wire.specs.declared.Size.TheVariants.{Bytes, Refused}
 use Rattle.handshake_entry_ask.specs.Asked.{counted_to_limit}

@@ -1,5 +1,4 @@
 -- `handshake_entry_ask::address_inside` meets its contract: with L = 0 the place is unread.
-use borrow.Author.Rules.{rules}
 use borrow.Author.Tests.{eq-eqb, ne_eqb}
 use Rattle.handshake_entry_ask.proofs.address_inside.Goals as goal
 

@@ -2,7 +2,6 @@
 use native.Mathlib.Omega.{arith}
 use mathlib.Core.Path.{sym, ap}
 use lib.ListN.{length}
-use borrow.Author.Rules.{rules}
 use Rattle.vlq.proofs.VlqLaws.{vlq_ten}
 use Rattle.handshake_entry_ask.specs.LengthLaws.{length-v4, length-v6, address-none}
 use Rattle.handshake_entry_ask.proofs.address_len.Goals as goal

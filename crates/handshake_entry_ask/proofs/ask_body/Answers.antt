@@ -2,7 +2,6 @@
 -- 7 is answered "no" of the end alone
 use Prim.Native.Nat.{◌+◌}
 use native.Mathlib.Omega.{arith}
-use borrow.Author.Rules.{rules}
 use borrow.Author.Tests.{le-leb, lt-leb}
 use Rattle.vlq.specs.Vlq.{limit}
 use Rattle.handshake_entry_ask.specs.Asked.{body_size}

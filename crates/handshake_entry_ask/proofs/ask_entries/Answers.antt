@@ -1,7 +1,5 @@
 -- `handshake_entry_ask::ask_entries` meets its contract: 16 of both tables, then the questions of all rows, then the body's.
 use mathlib.Core.Path.{sym, ap, ◌∙◌}
-use borrow.Author.Rules.{rules}
-use borrow.Author.Tests.{not-true, not-false}
 use Rattle.handshake.specs.Tables.{tables}
 use Rattle.handshake_entry_rows.specs.ValueLaws.{own-whole}
 use Rattle.handshake_entry_ask.specs.Asked.{body_size}

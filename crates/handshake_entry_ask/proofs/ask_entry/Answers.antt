@@ -1,8 +1,6 @@
 -- `handshake_entry_ask::ask_entry` meets its contract: 16 of both tables, the row in its table, then the questions of the row.
 use native.Mathlib.Omega.{arith}
 use mathlib.Core.Path.{sym, ap, ◌∙◌}
-use borrow.Author.Rules.{rules}
-use borrow.Author.Tests.{not-true, not-false}
 use Rattle.handshake.specs.Tables.{tables}
 use Rattle.handshake_entry_rows.specs.ValueLaws.{row-there, own-whole}
 use Rattle.handshake_entry_ask.specs.Asked.{row_size}

@@ -3,8 +3,6 @@ use Prim.Native.Nat.{◌-◌}
 use native.Mathlib.Omega.{arith}
 use mathlib.Core.List.{[]}
 use mathlib.Core.Path.{sym, ◌∙◌}
-use borrow.Author.Rules.{rules}
-use borrow.Author.Tests.{not-true, not-false}
 use Rattle.handshake.specs.Tables.{tables, bytes_at}
 use Rattle.handshake.proofs.TablesLaws.{parts_inside, own_range}
 use Rattle.handshake_entry_rows.specs.ValueLaws.{agent-part, name-part}

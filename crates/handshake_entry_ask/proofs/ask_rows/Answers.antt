@@ -1,13 +1,9 @@
 -- `handshake_entry_ask::ask_rows` meets its contract. The loop has asked the rows before k.
-use Prim.Native.Nat.{◌-◌, ◌/◌, ◌≤◌}
 use native.Mathlib.Omega.{arith}
-use mathlib.Core.Path.{◌≡◌, refl, ap, ◌∙◌}
-use lib.ListN.{length}
-use borrow.Author.Rules.{rules}
-use Rattle.handshake.specs.Tables.{tables}
+use mathlib.Core.Path.{refl, ap, ◌∙◌}
 use Rattle.handshake_entry_rows.specs.ValueLaws.{row-there}
 use Rattle.handshake_entry_ask.specs.Asked.{row_size}
-use Rattle.handshake_entry_ask.specs.AskedLaws.{SizeSoFar, size-start, size-turn, size-end}
+use Rattle.handshake_entry_ask.specs.AskedLaws.{size-start, size-turn, size-end}
 use Rattle.handshake_entry_ask.proofs.ask_rows.Goals as goal
 
 pub loop-k-init : goal.loop-k-init

@@ -1,6 +1,5 @@
 -- `handshake_entry_ask::feature_len` meets its contract: an id byte, the VLQ of the body's length, the body.
 use native.Mathlib.Omega.{arith}
-use borrow.Author.Rules.{rules}
 use Rattle.vlq.proofs.VlqLaws.{vlq_ten}
 use Rattle.handshake_entry_ask.proofs.feature_len.Goals as goal
 

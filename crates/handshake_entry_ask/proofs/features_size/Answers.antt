@@ -1,5 +1,5 @@
 -- `handshake_entry_ask::features_size` meets its contract. The loop has counted the bytes of the rows before k, each with a length within the limit.
-use Prim.Native.Nat.{ℕ, ◌+◌, ◌-◌, ◌*◌, ◌≤◌}
+use Prim.Native.Nat.{ℕ, ◌+◌, ◌-◌}
 use native.Mathlib.Nat.{sub-zero}
 use native.Mathlib.Omega.{arith}
 use mathlib.Core.List.{map, flat_map}
@@ -13,7 +13,7 @@ use Rattle.vlq.specs.Vlq.{limit}
 use Rattle.handshake.specs.declared.FeatureRow.{FeatureRow}
 use Rattle.handshake.specs.Value.{feature_bytes}
 use Rattle.handshake.specs.Tables.{rows, feature_row, feature_from_row}
-use Rattle.handshake.proofs.RowsLaws.{rows-from, bytes_next, bytes-none, Passed, passed_start, passed-next, passed-not, passed-end}
+use Rattle.handshake.proofs.RowsLaws.{rows-from, bytes_next, bytes-none, passed_start, passed-next, passed-not, passed-end}
 use Rattle.handshake_entry_rows.specs.ValueLaws.{part-inside}
 use Rattle.handshake_entry_ask.specs.LengthLaws.{body_within, length-feature, within-rows}
 use Rattle.handshake_entry_ask.proofs.features_size.Goals as goal
@@ -39,7 +39,7 @@ unfolding body_within
 loop-k-preserved c =
     let g = feature_from_row c.args.buffer.now in
     let f : ℕ → FeatureRow = λ i. feature_row c.args.features.now (c.args.e.first + i) in
-    let within = ap (λ c.args.buffer.now. leb (length c.args.buffer.now) limit) (sym c.part_of-body.ensures) ∙ le-leb _ _ c.if-body-gt-MAX_BODY_SIZE.false in
+    let within = ap (λ s. leb (length s) limit) (sym c.part_of-body.ensures) ∙ le-leb _ _ c.if-body-gt-MAX_BODY_SIZE.false in
     let next = ap length (bytes_next feature_bytes g f c.loop-k.k c.args.e.count c.loop-k-test.true) in
     let one : c.feature_len-m.result ≡ length (feature_bytes (g (f c.loop-k.k))) = rw (c.part_of-body.ensures) at c.feature_len-m.ensures.0 ∙ sym (length-feature c.args.buffer.now (f c.loop-k.k)) in
     let both = length-append (feature_bytes (g (f c.loop-k.k))) (flat_map feature_bytes (map g (rows f (c.loop-k.k + 1) (c.args.e.count - (c.loop-k.k + 1))))) in

@@ -1,6 +1,5 @@
 -- `handshake_entry_ask::first_of` meets its contract: the definition's test of both places.
 use native.Mathlib.Omega.{arith}
-use borrow.Author.Rules.{rules}
 use borrow.Author.Tests.{lt-ltb, le-ltb}
 use Rattle.wire.specs.Earliest.{position, earlier}
 use Rattle.handshake_entry_ask.specs.Asked.{row_numbers}

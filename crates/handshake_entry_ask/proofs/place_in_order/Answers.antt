@@ -1,6 +1,8 @@
 -- `handshake_entry_ask::place_in_order` meets its contract, arm by arm.
 use mathlib.Core.Path.{sym, ap}
-use borrow.Author.Tests.{ne_eqb}
+use Rattle.std.proofs.Common.{arith}
+use Rattle.std.proofs.lemmas.Grind.{common_steps}
+use Rattle.std.proofs.lemmas.Bool.Decides.{nat_tests}
 use Rattle.wire.specs.Earliest.{position}
 use Rattle.handshake_entry_ask.specs.Asked.{row_numbers}
 use Rattle.handshake_entry_ask.proofs.place_in_order.Goals as goal
@@ -27,4 +29,4 @@ returns-in-3 c = sym (ap (position row_numbers) c.in-3.is)
 
 pub returns-in_default : goal.returns-in_default
 unfolding position
-returns-in_default c = rw (ne_eqb _ _ c.in_default.rest.0.0.0.0.1, ne_eqb _ _ c.in_default.rest.0.0.0.1, ne_eqb _ _ c.in_default.rest.0.0.1, ne_eqb _ _ c.in_default.rest.0.1, ne_eqb _ _ c.in_default.rest.1)
+returns-in_default c = grind (arith, nat_tests, common_steps)

@@ -1,7 +1,6 @@
 -- `handshake_entry_ask::row_inside` meets its contract: each answer is the definition's, by the tests that led to it.
 use mathlib.Core.Path.{sym, ◌∙◌}
-use borrow.Author.Rules.{rules}
-use borrow.Author.Tests.{leb-true, not-true, not-false}
+use borrow.Author.Tests.{leb-true}
 use Rattle.handshake.specs.Tables.{inside, entry_inside}
 use Rattle.handshake_entry_ask.proofs.row_inside.Goals as goal
 

@@ -1,5 +1,4 @@
 -- `handshake_entry_ask::strings_short` meets its contract: the strings are the parts.
-use borrow.Author.Rules.{rules}
 use borrow.Author.Tests.{le-leb, lt-leb}
 use Rattle.handshake.specs.Value.{short_strings}
 use Rattle.handshake.specs.Tables.{entry_from_row}

@@ -1,7 +1,5 @@
 -- `handshake_entry_ask::strings_utf8` meets its contract: the strings are the parts.
 use mathlib.Core.Path.{sym, ap, ◌∙◌}
-use borrow.Author.Rules.{rules}
-use borrow.Author.Tests.{not-true, not-false}
 use Rattle.vlq_utf8.specs.Utf8.{utf8}
 use Rattle.handshake.specs.Value.{utf8_strings}
 use Rattle.handshake.specs.Tables.{entry_from_row}

@@ -1,6 +1,5 @@
 -- `handshake_entry_rows::entry_at` meets its contract: the row that is there, or zeros.
 use mathlib.Core.Path.{sym, ◌∙◌}
-use borrow.Author.Rules.{rules}
 use borrow.Author.Tests.{le-ltb}
 use Rattle.handshake_entry_rows.specs.Row.{row_or_zeros}
 use Rattle.handshake_entry_rows.specs.ValueLaws.{row-there}

@@ -1,5 +1,4 @@
 -- `handshake_entry_rows::entry_numbers` meets its contract: each answer is the definition's, by the tests that led to it.
-use borrow.Author.Rules.{rules}
 use borrow.Author.Tests.{lt-ltb, le-ltb, eq-eqb, ne_eqb}
 use Rattle.handshake.specs.Tables.{entry_numbers}
 use Rattle.handshake_entry_rows.proofs.entry_numbers.Goals as goal

@@ -1,12 +1,8 @@
 -- `handshake_entry_rows::every_entry` meets its contract. The loop has come to row k; the numbers of the rows before it are as they should be.
-use Prim.Native.Nat.{◌-◌, ◌/◌}
 use native.Mathlib.Omega.{arith}
-use mathlib.Core.Path.{◌≡◌, refl, sym, ap, ◌∙◌}
-use lib.ListN.{length}
-use borrow.Author.Rules.{rules}
-use borrow.Author.Tests.{not-true, not-false}
-use Rattle.handshake.specs.Tables.{entry_row, entry_numbers}
-use Rattle.handshake.proofs.RowsLaws.{Passed, passed_start, passed-next, passed-not, passed-end}
+use mathlib.Core.Path.{refl, sym, ap, ◌∙◌}
+use Rattle.handshake.specs.Tables.{entry_numbers}
+use Rattle.handshake.proofs.RowsLaws.{passed_start, passed-next, passed-not, passed-end}
 use Rattle.handshake_entry_rows.specs.ValueLaws.{row-there}
 use Rattle.handshake_entry_rows.proofs.every_entry.Goals as goal
 

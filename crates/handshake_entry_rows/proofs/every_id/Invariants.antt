@@ -1,11 +1,9 @@
 -- `handshake_entry_rows::every_id` meets its contract. The loop has come to row k; the ids before it are below 256.
 use Prim.Native.Nat.{◌-◌, ◌/◌}
-use native.Mathlib.Omega.{arith}
-use mathlib.Core.Path.{◌≡◌, refl}
+use mathlib.Core.Path.{◌≡◌}
 use lib.ListN.{length}
-use borrow.Author.Tests.{lt-ltb, le-ltb}
 use Rattle.handshake.specs.Tables.{feature_row, feature_numbers}
-use Rattle.handshake.proofs.RowsLaws.{Passed, passed_start, passed-next, passed-not, passed-end}
+use Rattle.handshake.proofs.RowsLaws.{Passed}
 use Rattle.handshake_entry_rows.proofs.every_id.Given as goal
 
 abbrev pub invariant-loop-k : goal.invariant-loop-k

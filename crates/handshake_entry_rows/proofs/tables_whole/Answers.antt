@@ -1,7 +1,6 @@
 -- `handshake_entry_rows::tables_whole` meets its contract: each answer is the definition's, by the tests that led to it.
 use mathlib.Core.Path.{sym, ◌∙◌}
-use borrow.Author.Rules.{rules}
-use borrow.Author.Tests.{eq-eqb, ne_eqb, not-true, not-false}
+use borrow.Author.Tests.{eq-eqb, ne_eqb}
 use Rattle.handshake.specs.Tables.{whole_rows, tables_whole}
 use Rattle.handshake_entry_rows.proofs.tables_whole.Goals as goal
 

@@ -14,19 +14,24 @@ pub put_head-a-requires : goal.put_head-a-requires
 put_head-a-requires c =
     let l = tables [] c.args.features.now c.args.buffer.now in
     let whole = length-entry l c.args.e in
-    ((c.requires.ready.numbers, own-short l c.args.e ∙ c.requires.ready.short), ((agent-part l c.args.e c.requires.ready.inside, name-part l c.args.e c.requires.ready.inside), omega (arith, whole)))
+    record {
+      e_value = (c.requires.ready.numbers, own-short l c.args.e ∙ c.requires.ready.short);
+      agentlen_in_bounds = (agent-part l c.args.e c.requires.ready.inside, name-part l c.args.e c.requires.ready.inside);
+      e_in_bounds = omega (arith, whole);
+    }
 
 pub put_address-b-requires : goal.put_address-b-requires
 unfolding entry_inside inside
 put_address-b-requires c =
     let l = tables [] c.args.features.now c.args.buffer.now in
     let whole = length-entry l c.args.e in
-    ((c.requires.ready.numbers, (parts_inside l c.args.e c.requires.ready.inside).address), omega (arith, whole, c.put_head-a.ensures.end, wrote_length c.put_head-a.ensures))
+    record {
+      e_value = (c.requires.ready.numbers, (parts_inside l c.args.e c.requires.ready.inside).address);
+      port_in_bounds = omega (arith, whole, c.put_head-a.ensures.end, wrote_length c.put_head-a.ensures);
+    }
 
 pub overflow_cast-out : goal.overflow_cast-out
 overflow_cast-out c =
-    let l = tables [] c.args.features.now c.args.buffer.now in
-    let whole = length-entry l c.args.e in
     omega (arith, c.requires.ready.few)
 
 pub bounds-out-b : goal.bounds-out-b
@@ -45,7 +50,13 @@ pub put_features-requires : goal.put_features-requires
 put_features-requires c =
     let l = tables [] c.args.features.now c.args.buffer.now in
     let whole = length-entry l c.args.e in
-    (own_range l c.args.e c.requires.ready.inside, ((c.requires.ready.ids, (parts_inside l c.args.e c.requires.ready.inside).features), simp length-set (omega (arith, whole, c.put_head-a.ensures.end, wrote_length c.put_head-a.ensures, c.put_address-b.ensures.end, wrote_length c.put_address-b.ensures))))
+    let a = c.put_head-a.ensures in
+    let b = c.put_address-b.ensures in
+    record {
+      count_in_bounds = own_range l c.args.e c.requires.ready.inside;
+      count_value = (c.requires.ready.ids, (parts_inside l c.args.e c.requires.ready.inside).features);
+      count_in_bounds_2 = simp length-set (omega (arith, whole, a.end, wrote_length a, b.end, wrote_length b));
+    }
 
 pub shape_of-out : goal.shape_of-out
 shape_of-out c = wrote_length c.put_features.ensures ∙ simp length-set (wrote_length c.put_address-b.ensures ∙ wrote_length c.put_head-a.ensures)
@@ -53,6 +64,5 @@ shape_of-out c = wrote_length c.put_features.ensures ∙ simp length-set (wrote_
 pub returns : goal.returns
 returns c =
     let l = tables [] c.args.features.now c.args.buffer.now in
-    let whole = length-entry l c.args.e in
     rw (entry_parts_lem l c.args.e)
     (wrote_then c.put_head-a.ensures (wrote_then c.put_address-b.ensures (wrote_then (wrote_byte _ _ c.args.e.count) c.put_features.ensures)))

@@ -2,7 +2,6 @@
 use native.Mathlib.Omega.{arith}
 use mathlib.Core.Path.{◌∙◌}
 use lib.ListN.{length-set}
-use borrow.Author.Rules.{rules}
 use Rattle.wire.proofs.OutputLaws.{wrote_then, wrote_byte, wrote_length}
 use Rattle.handshake.specs.Value.{feature_bytes}
 use Rattle.handshake.specs.Tables.{feature_from_row}

@@ -1,10 +1,8 @@
 -- `handshake_entry_write::put_features` meets its contract. The loop has stored the rows before k; the rest is still to be stored.
-use Prim.Native.Nat.{◌+◌, ◌-◌, ◌^◌, ◌<◌}
 use native.Mathlib.Omega.{arith}
-use Rattle.handshake.specs.Value.{feature_bytes}
-use Rattle.handshake.specs.Tables.{feature_row, feature_from_row, feature_numbers}
+use Rattle.handshake.specs.Tables.{feature_row}
 use Rattle.handshake.proofs.RowsLaws.{rows-from}
-use Rattle.handshake.proofs.PuttingLaws.{Putting, putting_start, putting_passed, putting_room, putting_turn, putting_end}
+use Rattle.handshake.proofs.PuttingLaws.{putting_start, putting_passed, putting_room, putting_turn, putting_end}
 use Rattle.handshake_entry_rows.specs.ValueLaws.{part-inside}
 use Rattle.handshake_entry_write.proofs.put_features.Goals as goal
 

@@ -1,7 +1,6 @@
 -- `handshake_entry_write::put_head` meets its contract: agent, version and name were stored one after the other.
 use native.Mathlib.Omega.{arith}
 use mathlib.Core.Path.{◌∙◌}
-use borrow.Author.Rules.{rules}
 use Rattle.wire.proofs.OutputLaws.{wrote_then, wrote_length}
 use Rattle.handshake_entry_ask.specs.Asked.{head_bytes}
 use Rattle.handshake_entry_ask.specs.LengthLaws.{length-head}
@@ -12,21 +11,25 @@ pub put_string-a-requires : goal.put_string-a-requires
 put_string-a-requires c =
     let short = short_lengths c.args.buffer.now c.args.e c.requires.e_value.1 in
     let head = length-head c.args.buffer.now c.args.e in
-    let e = rw c.part_of.ensures (short.0, omega (arith, head)) in record { s_len_bound = e.0; s_in_bounds = e.1 }
+    record { s_len_bound = rw c.part_of.ensures short.0; s_in_bounds = rw c.part_of.ensures (omega (arith, head)) }
 
 pub put_version-b-requires : goal.put_version-b-requires
 put_version-b-requires c =
     let short = short_lengths c.args.buffer.now c.args.e c.requires.e_value.1 in
     let head = length-head c.args.buffer.now c.args.e in
     let w = rw c.part_of.ensures at c.put_string-a.ensures in
-    (c.requires.e_value.0, omega (arith, head, w.end, wrote_length w))
+    record { e_value = c.requires.e_value.0; at_in_bounds = omega (arith, head, w.end, wrote_length w) }
 
 pub put_string-requires : goal.put_string-requires
 put_string-requires c =
     let short = short_lengths c.args.buffer.now c.args.e c.requires.e_value.1 in
     let head = length-head c.args.buffer.now c.args.e in
     let w = rw c.part_of.ensures at c.put_string-a.ensures in
-    let e = rw c.part_of-2.ensures (short.1, omega (arith, head, w.end, wrote_length w, c.put_version-b.ensures.end, wrote_length c.put_version-b.ensures)) in record { s_len_bound = e.0; s_in_bounds = e.1 }
+    let v = c.put_version-b.ensures in
+    record {
+      s_len_bound = rw c.part_of-2.ensures short.1;
+      s_in_bounds = rw c.part_of-2.ensures (omega (arith, head, w.end, wrote_length w, v.end, wrote_length v));
+    }
 
 pub shape_of-out : goal.shape_of-out
 shape_of-out c = wrote_length c.put_string.ensures ∙ wrote_length c.put_version-b.ensures ∙ wrote_length c.put_string-a.ensures

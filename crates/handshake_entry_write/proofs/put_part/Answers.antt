@@ -1,6 +1,5 @@
 -- `handshake_entry_write::put_part` meets its contract: the writer has room, so it writes.
 use mathlib.Core.List.{[]}
-use borrow.Author.Rules.{rules}
 use Rattle.wire.proofs.OutputLaws.{wrote_checked}
 use Rattle.handshake_entry_write.proofs.put_part.Goals as goal
 

@@ -1,12 +1,8 @@
 -- `handshake_entry_write::put_rows` meets its contract: the rows before k were stored.
-use Prim.Native.Nat.{◌-◌, ◌/◌}
 use native.Mathlib.Omega.{arith}
 use mathlib.Core.Path.{◌∙◌}
-use lib.ListN.{length}
-use borrow.Author.Rules.{rules}
-use Rattle.handshake.specs.Value.{entry_bytes}
-use Rattle.handshake.specs.Tables.{tables, entry_row, entry_from_row, entries_of, entry_inside}
-use Rattle.handshake.proofs.PuttingLaws.{Putting, putting_start, putting_room, putting_turn, putting_end}
+use Rattle.handshake.specs.Tables.{tables, entry_row, entries_of}
+use Rattle.handshake.proofs.PuttingLaws.{putting_start, putting_room, putting_turn, putting_end}
 use Rattle.handshake_entry_rows.specs.ValueLaws.{row-there, own-entry}
 use Rattle.handshake_entry_write.specs.RowsLaws.{each-row_ready}
 use Rattle.handshake_entry_write.proofs.put_rows.Goals as goal
@@ -19,8 +15,10 @@ pub put_entry-o-requires : goal.put_entry-o-requires
 put_entry-o-requires c =
     let l = tables c.args.entries.now c.args.features.now c.args.buffer.now in
     let row = c.entry_at-e.ensures ∙ row-there l.entries c.loop-k.k (omega arith) in
-    let e = rw row
-    (each-row_ready l c.loop-k.k (omega arith) c.requires.entries_ready, rw (own-entry l (entry_row l.entries c.loop-k.k)) (putting_room c.loop-k.invariant (omega arith))) in record { ready = e.0; e_in_bounds = e.1 }
+    record {
+      ready = rw row (each-row_ready l c.loop-k.k (omega arith) c.requires.entries_ready);
+      e_in_bounds = rw (row, own-entry l (entry_row l.entries c.loop-k.k)) (putting_room c.loop-k.invariant (omega arith));
+    }
 
 pub loop-k-preserved : goal.loop-k-preserved
 loop-k-preserved c =

@@ -1,14 +1,9 @@
 -- `handshake_entry_write::put_rows` meets its contract: the rows before k were stored.
 use Prim.Native.Nat.{◌-◌, ◌/◌}
-use native.Mathlib.Omega.{arith}
-use mathlib.Core.Path.{◌∙◌}
 use lib.ListN.{length}
-use borrow.Author.Rules.{rules}
 use Rattle.handshake.specs.Value.{entry_bytes}
-use Rattle.handshake.specs.Tables.{tables, entry_row, entry_from_row, entries_of, entry_inside}
-use Rattle.handshake.proofs.PuttingLaws.{Putting, putting_start, putting_room, putting_turn, putting_end}
-use Rattle.handshake_entry_rows.specs.ValueLaws.{row-there, own-entry}
-use Rattle.handshake_entry_write.specs.RowsLaws.{each-row_ready}
+use Rattle.handshake.specs.Tables.{tables, entry_row, entry_from_row, entry_inside}
+use Rattle.handshake.proofs.PuttingLaws.{Putting}
 use Rattle.handshake_entry_write.proofs.put_rows.Given as goal
 
 abbrev pub invariant-loop-k : goal.invariant-loop-k

@@ -1,7 +1,6 @@
 -- `handshake_entry_write::put_version` meets its contract: three bytes.
 use native.Mathlib.Omega.{arith}
 use lib.ListN.{length-set}
-use borrow.Author.Rules.{rules}
 use Rattle.handshake.proofs.TablesLaws.{numbers_of}
 use Rattle.wire.proofs.OutputLaws.{wrote_three}
 use Rattle.handshake_entry_write.proofs.put_version.Goals as goal

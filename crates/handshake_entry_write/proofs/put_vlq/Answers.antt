@@ -2,8 +2,7 @@
 use native.Mathlib.Omega.{arith}
 use mathlib.Core.List.{[]}
 use mathlib.Core.Path.{ap}
-use lib.ListN.{length, length-set}
-use borrow.Author.Rules.{rules}
+use lib.ListN.{length}
 use Rattle.wire.proofs.OutputLaws.{wrote_byte, wrote_to}
 use Rattle.vlq.proofs.VlqLaws.{vlq-last}
 use Rattle.wire_output.specs.CheckedLaws.{not-refused}

@@ -1,6 +1,5 @@
 -- `handshake_entry_write::write_entry` meets its contract: every question was asked first, and the entry was stored once all held.
 use mathlib.Core.Path.{◌∙◌}
-use borrow.Author.Rules.{rules}
 use Rattle.wire.proofs.OutputLaws.{wrote_length}
 use Rattle.handshake.specs.Tables.{tables, entry_row}
 use Rattle.handshake_entry_rows.specs.ValueLaws.{row-there, own-entry}
@@ -13,7 +12,7 @@ put_entry-requires c =
     let yes = entry-accepted l c.args.k c.args.out.now c.args.at c.ask_entry.ensures c.ask_output-answer.ensures c.in-To.is in
     let lt = entry_in-table l c.args.k c.args.out.now c.args.at c.ask_entry.ensures c.ask_output-answer.ensures c.in-To.is in
     let row = c.entry_at.ensures ∙ row-there l.entries c.args.k lt in
-    let e = rw row (yes.0, rw (own-entry l (entry_row l.entries c.args.k)) yes.1) in record { ready = e.0; e_in_bounds = e.1 }
+    record { ready = rw row yes.0; e_in_bounds = rw (row, own-entry l (entry_row l.entries c.args.k)) yes.1 }
 
 pub shape_of-out : goal.shape_of-out
 shape_of-out c = wrote_length c.put_entry.ensures

@@ -4,7 +4,6 @@ use mathlib.Core.List.{[], ◌∷◌}
 use mathlib.Core.Path.{ap, ◌∙◌}
 use lib.ListN.{length}
 use native.Mathlib.Omega.{arith}
-use borrow.Author.Rules.{rules}
 use Rattle.wire.specs.Output.{ask}
 use Rattle.vlq.specs.Vlq.{vlq_bytes}
 use Rattle.handshake.specs.Value.{entry_bytes, handshake_bytes}
@@ -20,11 +19,11 @@ unfolding entry_written handshake_written handshake_bytes
 returns-in-To c =
     let l = (tables c.args.entries.now c.args.features.now c.args.buffer.now) in
     let w = behind_stored (ask 16 (tables_whole l) ∷ []) (row_asked l c.args.k) c.args.out.now c.args.at _ (vlq_bytes c.args.timestamp) (entry_bytes (entry_at_row l c.args.k)) (c.place_behind.ensures ∙ ap (behind (length c.args.out.now) c.args.at) c.vlq_len-v.ensures) (entry-some (entry_at_row l c.args.k)) c.write_entry-answer.ensures.value c.write_entry-answer.ensures.out_after c.in-To.is c.write_vlq.ensures.value c.write_vlq.ensures.out_after in
-    record { value = w.0; out_after = w.1; timestamp_bound = (omega arith, all_bytes_lem _ (λ i. omega (arith, c.shared_slice_known-3-1.given i))) }
+    record { value = w.0; out_after = w.1; timestamp_bound = (omega arith, all_bytes_lem _ (λ i. omega (arith, c.type_inv.buffer i))) }
 
 pub returns-in_default : goal.returns-in_default
 unfolding entry_written handshake_written handshake_bytes
 returns-in_default c =
     let l = (tables c.args.entries.now c.args.features.now c.args.buffer.now) in
     let w = behind-refused (ask 16 (tables_whole l) ∷ []) (row_asked l c.args.k) c.args.out.now c.args.at _ (vlq_bytes c.args.timestamp) (entry_bytes (entry_at_row l c.args.k)) (c.place_behind.ensures ∙ ap (behind (length c.args.out.now) c.args.at) c.vlq_len-v.ensures) (entry-some (entry_at_row l c.args.k)) c.write_entry-answer.ensures.value c.write_entry-answer.ensures.out_after c.in_default.is in
-    record { value = w.0; out_after = w.1; timestamp_bound = (omega arith, all_bytes_lem _ (λ i. omega (arith, c.shared_slice_known-3-1.given i))) }
+    record { value = w.0; out_after = w.1; timestamp_bound = (omega arith, all_bytes_lem _ (λ i. omega (arith, c.type_inv.buffer i))) }
