@@ -14,9 +14,6 @@ use Rattle.handshake_address_write.proofs.put_v6.Goals as goal
 pub bounds-out-at-2 : goal.bounds-out-at-2
 bounds-out-at-2 c = simp length-set (omega arith)
 
-pub shape_of-out : goal.shape_of-out
-shape_of-out c = ap length (returns c) ∙ length-put _ _ _
-
 pub returns : goal.returns
 returns c =
     let h8 = length-big_endian_bytes 8 c.args.high in
@@ -28,3 +25,6 @@ returns c =
     let ten : c.args.at + 10 ≡ c.args.at + 2 + length (big_endian_bytes 8 c.args.high) = omega (arith, h8) in
     let end : c.args.at + 18 ≡ c.args.at + 10 + length (big_endian_bytes 8 c.args.low) = omega (arith, l8) in
     (wrote_then (wrote_two c.args.out.now c.args.at 1 20) (wrote_then w (rw ten at (wrote_then u (rw end at v))))).bytes
+
+pub shape_of-out : goal.shape_of-out
+shape_of-out c = ap length (returns c) ∙ length-put _ _ _
