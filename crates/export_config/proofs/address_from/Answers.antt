@@ -2,7 +2,6 @@
 use borrow.Author.Tests.{eq-eqb, ne_eqb}
 use Rattle.export_config.specs.Configs.{address_from}
 use Rattle.export_config.proofs.ConfigLaws.{v4-below}
-use borrow.Author.Rules.{rules}
 use Rattle.export_config.proofs.address_from.Goals as goal
 
 pub overflow_cast-result : goal.overflow_cast-result

@@ -3,7 +3,6 @@ use mathlib.Core.Path.{◌≡◌, sym, ◌∙◌}
 use mir.Syntax.{w32, w64}
 use mir.Val.{to_z, of_z}
 use borrow.Author.Rules.{rules}
-use borrow.Author.Tests.{not-true, not-false}
 use Rattle.export_config.proofs.ConfigLaws.{made-same, is-value, is-refused}
 use Rattle.export_config.proofs.config_from.Goals as goal
 

@@ -4,7 +4,6 @@ use native.Mathlib.Omega.{arith}
 use mathlib.Core.List.{[]}
 use mathlib.Core.Path.{◌≡◌, ap, ◌∙◌}
 use lib.ListN.{length, length-set}
-use borrow.Author.Rules.{rules}
 use Rattle.wire.specs.Bytes.{big_endian_bytes}
 use Rattle.wire.proofs.BytesLaws.{length-big_endian_bytes}
 use Rattle.wire.proofs.OutputLaws.{length-put, wrote_then, wrote_length, wrote_checked, wrote_two}

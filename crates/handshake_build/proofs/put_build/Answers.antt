@@ -3,7 +3,6 @@ use Prim.Native.Nat.{◌+◌}
 use native.Mathlib.Omega.{arith}
 use mathlib.Core.List.{[]}
 use mathlib.Core.Path.{refl}
-use borrow.Author.Rules.{rules}
 use Rattle.wire.proofs.OutputLaws.{wrote_then, wrote_length}
 use Rattle.handshake.specs.Value.{address_bytes}
 use Rattle.handshake_build.specs.Parts.{before_address_bytes}

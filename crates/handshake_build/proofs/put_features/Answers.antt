@@ -7,7 +7,6 @@ use mir.Syntax.{w32, w64}
 use mir.Val.{SFits}
 use lib.IntN.{ℤ}
 use lib.ListN.{length}
-use borrow.Author.Rules.{rules}
 use Rattle.wire.proofs.OutputLaws.{length-put, wrote_byte, wrote_then, wrote_length}
 use Rattle.handshake.specs.Value.{feature_bytes}
 use Rattle.handshake_features_write.specs.Features.{mode_feature_of, session_feature_of}

@@ -6,7 +6,6 @@ use mathlib.Core.Path.{◌≡◌, ap, ◌∙◌}
 use mir.Facts.{to_z-of_z}
 use lib.IntN.{ℤ}
 use lib.ListN.{length, length-set}
-use borrow.Author.Rules.{rules}
 use Rattle.wire.proofs.OutputLaws.{length-put, wrote_then, wrote_length, wrote_checked, wrote_two}
 use Rattle.vlq.specs.Vlq.{vlq_bytes}
 use Rattle.vlq_zigzag.specs.Zigzag.{zigzag_encode}
