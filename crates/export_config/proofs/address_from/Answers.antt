@@ -2,8 +2,10 @@
 use borrow.Author.Tests.{eq-eqb, ne_eqb}
 use Rattle.export_config.specs.Configs.{address_from}
 use Rattle.export_config.proofs.ConfigLaws.{v4-below}
-use borrow.Author.Rules.{rules}
 use Rattle.export_config.proofs.address_from.Goals as goal
+
+pub overflow_cast-result : goal.overflow_cast-result
+overflow_cast-result c = record { fits = v4-below c.args.kind c.args.high c.args.low c.if-kind-eq4.true c.requires }
 
 pub returns-then-kind-eq4 : goal.returns-then-kind-eq4
 unfolding address_from

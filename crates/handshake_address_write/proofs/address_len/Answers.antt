@@ -1,7 +1,6 @@
 -- `handshake_address_write::address_len` meets its contract: one arm for each kind of address.
 use native.Mathlib.Omega.{arith}
 use mathlib.Core.Path.{refl}
-use borrow.Author.Rules.{rules}
 use Rattle.vlq.proofs.VlqLaws.{vlq_ten}
 use Rattle.handshake.specs.Value.{address_bytes}
 use Rattle.handshake_address_write.specs.AddressLaws.{length-v4, length-v6}

@@ -2,7 +2,6 @@
 use native.Mathlib.Omega.{arith}
 use mathlib.Core.Path.{ap, ◌∙◌}
 use lib.ListN.{length}
-use borrow.Author.Rules.{rules}
 use Rattle.wire.proofs.OutputLaws.{wrote_byte}
 use Rattle.types.specs.declared.Address.{Address}
 use Rattle.handshake.specs.Value.{address_bytes}

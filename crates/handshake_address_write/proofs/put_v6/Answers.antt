@@ -4,7 +4,6 @@ use native.Mathlib.Omega.{arith}
 use mathlib.Core.List.{[]}
 use mathlib.Core.Path.{◌≡◌, ap, ◌∙◌}
 use lib.ListN.{length, length-set}
-use borrow.Author.Rules.{rules}
 use Rattle.wire.specs.Bytes.{big_endian_bytes}
 use Rattle.wire.proofs.BytesLaws.{length-big_endian_bytes}
 use Rattle.wire.proofs.OutputLaws.{length-put, wrote_then, wrote_length, wrote_checked, wrote_two}
@@ -13,9 +12,6 @@ use Rattle.handshake_address_write.proofs.put_v6.Goals as goal
 
 pub bounds-out-at-2 : goal.bounds-out-at-2
 bounds-out-at-2 c = simp length-set (omega arith)
-
-pub shape_of-out : goal.shape_of-out
-shape_of-out c = ap length (returns c) ∙ length-put _ _ _
 
 pub returns : goal.returns
 returns c =
@@ -28,3 +24,6 @@ returns c =
     let ten : c.args.at + 10 ≡ c.args.at + 2 + length (big_endian_bytes 8 c.args.high) = omega (arith, h8) in
     let end : c.args.at + 18 ≡ c.args.at + 10 + length (big_endian_bytes 8 c.args.low) = omega (arith, l8) in
     (wrote_then (wrote_two c.args.out.now c.args.at 1 20) (wrote_then w (rw ten at (wrote_then u (rw end at v))))).bytes
+
+pub shape_of-out : goal.shape_of-out
+shape_of-out c = ap length (returns c) ∙ length-put _ _ _

@@ -1,7 +1,6 @@
 -- `handshake_address_write::write_address` meets its contract: the room was asked by the address's length, and the address was stored once there was some.
 use mathlib.Core.List.{[]}
 use mathlib.Core.Path.{refl}
-use borrow.Author.Rules.{rules}
 use Rattle.wire_output.specs.CheckedLaws.{accepted, stored, kept}
 use Rattle.handshake.specs.Value.{address_bytes}
 use Rattle.handshake_address_write.proofs.write_address.Goals as goal

@@ -2,7 +2,6 @@
 use mathlib.Core.List.{[], ◌∷◌}
 use mathlib.Core.Path.{refl, ap, ◌∙◌}
 use lib.ListN.{length}
-use borrow.Author.Rules.{rules}
 use Rattle.wire_output.specs.Asked.{output_asked}
 use Rattle.wire_output.specs.CheckedLaws.{accepted, stored, kept}
 use Rattle.handshake.specs.Value.{handshake_bytes, entries_asked}
@@ -27,7 +26,7 @@ returns-in-To c =
     let qs = entries_asked ((built c').entry ∷ []) in
     let says = c.ask_output-answer.ensures ∙ ap (output_asked (length c.args.out.now) c.args.at) c.build_size.ensures ∙ built-asked c.args.config c.args.agent.now c.args.name.now (length c.args.out.now) c.args.at in
     let done = stored [] qs _ _ (handshake_bytes (built c')) says c.in-To.is (record { end = refl; bytes = c.put_build.ensures }) in
-    record { value = done.0; out_after = done.1; timestamp_bound = config-typed c.args.config _ c.well-formed.1.1.0 }
+    record { value = done.0; out_after = done.1; timestamp_bound = config-typed c.args.config _ c.well_formed.1.1.0 }
 
 pub returns-in_default : goal.returns-in_default
 unfolding built_written
@@ -36,4 +35,4 @@ returns-in_default c =
     let qs = entries_asked ((built c').entry ∷ []) in
     let says = c.ask_output-answer.ensures ∙ ap (output_asked (length c.args.out.now) c.args.at) c.build_size.ensures ∙ built-asked c.args.config c.args.agent.now c.args.name.now (length c.args.out.now) c.args.at in
     let left = kept [] qs _ _ (handshake_bytes (built c')) says c.in_default.is in
-    record { value = left.0; out_after = left.1; timestamp_bound = config-typed c.args.config _ c.well-formed.1.1.0 }
+    record { value = left.0; out_after = left.1; timestamp_bound = config-typed c.args.config _ c.well_formed.1.1.0 }

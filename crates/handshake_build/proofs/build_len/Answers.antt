@@ -6,7 +6,6 @@ use mir.Syntax.{w32, w64}
 use mir.Val.{SFits}
 use lib.IntN.{ℤ}
 use lib.ListN.{length}
-use borrow.Author.Rules.{rules}
 use Rattle.vlq.proofs.VlqLaws.{vlq_ten}
 use Rattle.handshake.specs.Value.{feature_bytes}
 use Rattle.handshake_features_write.specs.Features.{mode_feature_of, session_feature_of}

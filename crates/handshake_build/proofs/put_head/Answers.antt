@@ -4,7 +4,6 @@ use native.Mathlib.Omega.{arith}
 use mathlib.Core.List.{[]}
 use mathlib.Core.Path.{refl}
 use lib.ListN.{length}
-use borrow.Author.Rules.{rules}
 use borrow.Author.Tests.{le-leb}
 use Rattle.wire.proofs.OutputLaws.{wrote_then, wrote_length}
 use Rattle.vlq.specs.Vlq.{vlq_bytes}

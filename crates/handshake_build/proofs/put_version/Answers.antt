@@ -1,7 +1,6 @@
 -- `handshake_build::put_version` meets its contract: three bytes.
 use native.Mathlib.Omega.{arith}
 use lib.ListN.{length-set}
-use borrow.Author.Rules.{rules}
 use Rattle.handshake.specs.Value.{version_bytes}
 use Rattle.wire.proofs.OutputLaws.{wrote_three}
 use Rattle.handshake_build.proofs.put_version.Goals as goal

@@ -3,7 +3,6 @@ use native.Mathlib.Omega.{arith}
 use mathlib.Core.Path.{ap, ◌∙◌}
 use mir.Facts.{to_z-of_z}
 use lib.ListN.{length}
-use borrow.Author.Rules.{rules}
 use Rattle.vlq.proofs.VlqLaws.{vlq_ten}
 use Rattle.vlq_zigzag.specs.Zigzag.{zigzag_encode}
 use Rattle.handshake.specs.Writes.{nipopow}
@@ -19,17 +18,17 @@ overflow_add-result-in-Light c = omega (arith, c.vlq_len-n.ensures, vlq_ten c.zi
 pub returns-in-Full : goal.returns-in-Full
 unfolding nipopow
 returns-in-Full c =
-    let e = c.zigzag_encode.ensures ∙ ap zigzag_encode (to_z-of_z c.ranges.blocks-to-keep) in
+    let e = c.zigzag_encode.ensures ∙ ap zigzag_encode (to_z-of_z c.ranges.blocks_to_keep) in
     let n = ap (λ m. length (nipopow m)) c.in-Full.is in (
-      λ s b. omega (arith, n, c.vlq_len-n.ensures, length-mode c.args.mode s b c.args.blocks-to-keep e (omega arith)),
+      λ s b. omega (arith, n, c.vlq_len-n.ensures, length-mode c.args.mode s b c.args.blocks_to_keep e (omega arith)),
       omega (arith, c.vlq_len-n.ensures, vlq_ten c.zigzag_encode.result (omega arith)),
     )
 
 pub returns-in-Light : goal.returns-in-Light
 unfolding nipopow
 returns-in-Light c =
-    let e = c.zigzag_encode.ensures ∙ ap zigzag_encode (to_z-of_z c.ranges.blocks-to-keep) in
+    let e = c.zigzag_encode.ensures ∙ ap zigzag_encode (to_z-of_z c.ranges.blocks_to_keep) in
     let n = ap (λ m. length (nipopow m)) c.in-Light.is in (
-      λ s b. omega (arith, n, c.vlq_len-n.ensures, length-mode c.args.mode s b c.args.blocks-to-keep e (omega arith)),
+      λ s b. omega (arith, n, c.vlq_len-n.ensures, length-mode c.args.mode s b c.args.blocks_to_keep e (omega arith)),
       omega (arith, c.vlq_len-n.ensures, vlq_ten c.zigzag_encode.result (omega arith)),
     )

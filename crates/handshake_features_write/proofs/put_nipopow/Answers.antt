@@ -2,7 +2,6 @@
 use native.Mathlib.Omega.{arith}
 use mathlib.Core.Path.{ap}
 use lib.ListN.{length, length-set}
-use borrow.Author.Rules.{rules}
 use Rattle.wire.proofs.OutputLaws.{wrote_byte, wrote_two}
 use Rattle.handshake.specs.Writes.{nipopow}
 use Rattle.handshake_features_write.proofs.put_nipopow.Goals as goal

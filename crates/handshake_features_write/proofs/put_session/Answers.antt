@@ -6,7 +6,6 @@ use mathlib.Core.Path.{◌≡◌, ap, ◌∙◌}
 use mir.Facts.{to_z-of_z}
 use lib.IntN.{ℤ}
 use lib.ListN.{length, length-set}
-use borrow.Author.Rules.{rules}
 use Rattle.wire.proofs.OutputLaws.{length-put, wrote_then, wrote_length, wrote_checked, wrote_two}
 use Rattle.vlq.specs.Vlq.{vlq_bytes}
 use Rattle.vlq_zigzag.specs.Zigzag.{zigzag_encode}
@@ -31,9 +30,6 @@ bounds-out-at-2 c =
     let e = c.zigzag_encode_i64-id.ensures ∙ ap zigzag_encode (to_z-of_z c.ranges.session) in
     simp length-set (omega (arith, length-session c.args.network c.args.session e (omega arith)))
 
-pub shape_of-out : goal.shape_of-out
-shape_of-out c = ap length (returns c) ∙ length-put _ _ _
-
 pub returns : goal.returns
 returns c =
     let e = c.zigzag_encode_i64-id.ensures ∙ ap zigzag_encode (to_z-of_z c.ranges.session) in
@@ -44,3 +40,6 @@ returns c =
     let w = wrote_checked [] [] _ (c.args.at + 6) (vlq_bytes c.zigzag_encode_i64-id.result) c.write_vlq.ensures.value c.write_vlq.ensures.out_after tt tt (omega (arith, size, simp length-set at (wrote_length v))) in
     let six : c.args.at + 6 ≡ c.args.at + 2 + length (magic_of c.args.network) = omega (arith, four) in
     rw (session_parts c.args.network c.args.session e (omega arith) {n = c.session_len.result - 2} (omega (arith, n, size))) (wrote_then (wrote_two c.args.out.now c.args.at 3 _) (wrote_then v (rw six at w))).bytes
+
+pub shape_of-out : goal.shape_of-out
+shape_of-out c = ap length (returns c) ∙ length-put _ _ _

@@ -2,7 +2,6 @@
 use native.Mathlib.Omega.{arith}
 use mathlib.Core.Path.{ap, ◌∙◌}
 use mir.Facts.{to_z-of_z}
-use borrow.Author.Rules.{rules}
 use Rattle.vlq.proofs.VlqLaws.{vlq_ten}
 use Rattle.vlq_zigzag.specs.Zigzag.{zigzag_encode}
 use Rattle.handshake_features_write.specs.FeaturesLaws.{length-session}

@@ -6,7 +6,6 @@ use mathlib.Core.Path.{refl, ap, ◌∙◌}
 use mir.Facts.{to_z-of_z}
 use lib.IntN.{ℤ}
 use lib.ListN.{length}
-use borrow.Author.Rules.{rules}
 use Rattle.wire.specs.Output.{put}
 use Rattle.wire_output.specs.CheckedLaws.{accepted, stored, kept}
 use Rattle.handshake.specs.Value.{feature_bytes}
