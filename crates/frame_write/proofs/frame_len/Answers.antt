@@ -1,7 +1,6 @@
 -- `frame_write::frame_len` meets its contract, by the test that led to each answer.
 use native.Mathlib.Omega.{arith}
 use mathlib.Core.Path.{◌≡◌, sym, ap}
-use borrow.Author.Rules.{rules}
 use Rattle.frame_write.specs.Asked.{frame_length}
 use Rattle.frame_write.specs.FrameWriteLaws.{frame_length-body}
 use Rattle.frame_write.proofs.frame_len.Goals as goal

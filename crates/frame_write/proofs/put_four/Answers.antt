@@ -1,7 +1,6 @@
 -- `frame_write::put_four` meets its contract: four bytes were stored, one after the other.
 use native.Mathlib.Omega.{arith}
 use lib.ListN.{length-set}
-use borrow.Author.Rules.{rules}
 use Rattle.frame_write.proofs.Stores.{four_stored}
 use Rattle.frame_write.proofs.put_four.Goals as goal
 

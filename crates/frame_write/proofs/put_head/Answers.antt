@@ -2,7 +2,6 @@
 use native.Mathlib.Omega.{arith}
 use mathlib.Core.Path.{◌∙◌}
 use lib.ListN.{length-set}
-use borrow.Author.Rules.{rules}
 use Rattle.wire.proofs.OutputLaws.{wrote_length}
 use Rattle.frame_write.proofs.Stores.{head_stored}
 use Rattle.frame_write.proofs.put_head.Goals as goal
