@@ -7,7 +7,6 @@ use Rattle.messages_inventory_read.specs.Parts.{id_at}
 use Rattle.messages_inventory_read.specs.Answers.{inventory_in, inventory_answer}
 use Rattle.messages_inventory_read.proofs.ItemsLaws.{item_refused, item_past}
 use Rattle.messages_inventory_read.proofs.AnswerLaws.{id-fits, id-got}
-use borrow.Author.Rules.{rules}
 use Rattle.messages_inventory_read.proofs.id_by_index.Goals as goal
 
 pub returns-then-ids-index : goal.returns-then-ids-index

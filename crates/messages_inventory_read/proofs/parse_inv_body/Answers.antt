@@ -7,7 +7,6 @@ use Rattle.messages_inventory_read.specs.Parts.{items}
 use Rattle.messages_inventory_read.proofs.PartsLaws.{header-ends, header_counts, ids-there, ids_missing}
 use Rattle.messages_inventory_read.specs.Answers.{header_answer}
 use Rattle.messages_inventory_read.proofs.ItemsLaws.{items-got, items_refused}
-use borrow.Author.Rules.{rules}
 use Rattle.messages_inventory_read.proofs.parse_inv_body.Goals as goal
 
 pub overflow_mul-size : goal.overflow_mul-size

@@ -3,7 +3,6 @@ use mathlib.Core.Path.{sym, ap, ◌∙◌}
 use borrow.Author.Tests.{le-leb, lt-leb}
 use Rattle.vlq.specs.Answers.{vlq_answer}
 use Rattle.messages.specs.Message.{count}
-use borrow.Author.Rules.{rules}
 use Rattle.messages_inventory_read.proofs.read_count.Goals as goal
 
 pub returns-then-count-cap : goal.returns-then-count-cap

@@ -3,7 +3,6 @@ use mathlib.Core.Path.{sym, ap, ◌∙◌}
 use Rattle.vlq.specs.Answers.{byte_answer}
 use Rattle.messages.specs.Message.{inventory_header}
 use Rattle.messages_inventory_read.specs.Answers.{count_answer}
-use borrow.Author.Rules.{rules}
 use Rattle.messages_inventory_read.proofs.read_header.Goals as goal
 
 pub returns-in-Value-read_count : goal.returns-in-Value-read_count

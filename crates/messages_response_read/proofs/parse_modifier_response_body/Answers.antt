@@ -7,7 +7,6 @@ use Rattle.messages_inventory_read.specs.Parts.{items}
 use Rattle.messages_inventory_read.specs.Answers.{header_answer}
 use Rattle.messages_inventory_read.proofs.ItemsLaws.{items-got, items_refused}
 use Rattle.messages_response_read.specs.Answers.{sum_answer}
-use borrow.Author.Rules.{rules}
 use Rattle.messages_response_read.proofs.parse_modifier_response_body.Goals as goal
 
 pub returns-in-Value-skip_payloads : goal.returns-in-Value-skip_payloads

@@ -4,7 +4,6 @@ use mathlib.Core.Path.{sym, ap, ◌∙◌}
 use Rattle.wire.proofs.ReaderLaws.{map-got, map-refused, map-value, map-refusal}
 use Rattle.messages_response_read.specs.declared.Payload.{Payload}
 use Rattle.messages_response_read.specs.Answers.{payload_sum, payload_answer}
-use borrow.Author.Rules.{rules}
 use Rattle.messages_response_read.proofs.payload_after.Goals as goal
 
 pub returns-in-Value : goal.returns-in-Value

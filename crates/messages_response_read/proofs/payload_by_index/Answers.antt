@@ -7,7 +7,6 @@ use Rattle.messages_inventory_read.specs.Answers.{inventory_in, inventory_answer
 use Rattle.messages_inventory_read.proofs.ItemsLaws.{item_refused, item_past, item-after, item-not-after}
 use Rattle.messages_response_read.specs.Parts.{payload_at}
 use Rattle.messages_response_read.specs.Answers.{sum_answer}
-use borrow.Author.Rules.{rules}
 use Rattle.messages_response_read.proofs.payload_by_index.Goals as goal
 
 pub returns-then-payloads-index : goal.returns-then-payloads-index

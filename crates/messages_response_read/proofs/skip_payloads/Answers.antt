@@ -1,6 +1,6 @@
 -- `messages_response_read::skip_payloads` meets its contract. The loop's invariant and what follows from it stand in `LoopLaws` of wire and
 -- `PayloadsLoop`.
-use Prim.Native.Nat.{ℕ, ◌-◌}
+use Prim.Native.Nat.{ℕ}
 use mathlib.Core.Path.{sym, ap, ◌∙◌}
 use native.Mathlib.Omega.{arith}
 use lib.ListN.{length}
@@ -8,9 +8,8 @@ use Rattle.wire.proofs.ReaderLaws.{map-got, map-refused}
 use Rattle.messages.specs.Message.{payload, total}
 use Rattle.messages_response_read.specs.declared.Payload.{Payload}
 use Rattle.messages_response_read.specs.Answers.{payload_sum, payload_answer}
-use Rattle.wire.proofs.LoopLaws.{ListSoFar, list-start, list-end}
+use Rattle.wire.proofs.LoopLaws.{list-start, list-end}
 use Rattle.messages_response_read.proofs.PayloadsLoop.{payloads_again, payloads-refused}
-use borrow.Author.Rules.{rules}
 use Rattle.messages_response_read.proofs.skip_payloads.Goals as goal
 
 pub loop-i-init : goal.loop-i-init

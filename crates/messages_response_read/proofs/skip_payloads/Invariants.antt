@@ -1,16 +1,9 @@
 -- `messages_response_read::skip_payloads` meets its contract. The loop's invariant and what follows from it stand in `LoopLaws` of wire and
 -- `PayloadsLoop`.
-use Prim.Native.Nat.{ℕ, ◌-◌}
-use mathlib.Core.Path.{sym, ap, ◌∙◌}
-use native.Mathlib.Omega.{arith}
+use Prim.Native.Nat.{◌-◌}
 use lib.ListN.{length}
-use Rattle.wire.proofs.ReaderLaws.{map-got, map-refused}
 use Rattle.messages.specs.Message.{payload, total}
-use Rattle.messages_response_read.specs.declared.Payload.{Payload}
-use Rattle.messages_response_read.specs.Answers.{payload_sum, payload_answer}
-use Rattle.wire.proofs.LoopLaws.{ListSoFar, list-start, list-end}
-use Rattle.messages_response_read.proofs.PayloadsLoop.{payloads_again, payloads-refused}
-use borrow.Author.Rules.{rules}
+use Rattle.wire.proofs.LoopLaws.{ListSoFar}
 use Rattle.messages_response_read.proofs.skip_payloads.Given as goal
 
 abbrev pub invariant-loop-i : goal.invariant-loop-i
