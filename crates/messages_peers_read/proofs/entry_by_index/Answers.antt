@@ -10,7 +10,7 @@ use Rattle.messages_peers_read.proofs.entry_by_index.Goals as goal
 pub returns-in-Value : goal.returns-in-Value
 returns-in-Value c =
     let e1 = sym c.read_count.ensures ∙ ap count_answer c.in-Value.is in
-    rw (entry_among_lem c.args.cap c.args.index c.args.body.now e1) c.entry_among_lem.ensures
+    rw (entry_among_lem c.args.cap c.args.index c.args.body.now e1) c.entry_among.ensures
 
 pub returns-in-Refused : goal.returns-in-Refused
 unfolding entry_at entries
