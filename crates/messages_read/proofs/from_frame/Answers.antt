@@ -71,11 +71,11 @@ pub returns-in_default : goal.returns-in_default
 unfolding message whole_body
 returns-in_default c =
     rw (
-      ne_eqb c.args.code 1 c.in_default.rest.0.0.0.0.0.1,
-      ne_eqb c.args.code 2 c.in_default.rest.0.0.0.0.1,
-      ne_eqb c.args.code 22 c.in_default.rest.0.0.1,
-      ne_eqb c.args.code 33 c.in_default.rest.0.1,
-      ne_eqb c.args.code 55 c.in_default.rest.0.0.0.1,
-      ne_eqb c.args.code 65 c.in_default.rest.1,
+      ne_eqb c.args.code 1 c.in_default.in_default-own.rest.0.0.0.0.0.1,
+      ne_eqb c.args.code 2 c.in_default.in_default-own.rest.0.0.0.0.1,
+      ne_eqb c.args.code 22 c.in_default.in_default-own.rest.0.0.1,
+      ne_eqb c.args.code 33 c.in_default.in_default-own.rest.0.1,
+      ne_eqb c.args.code 55 c.in_default.in_default-own.rest.0.0.0.1,
+      ne_eqb c.args.code 65 c.in_default.in_default-own.rest.1,
       map-value,
     )

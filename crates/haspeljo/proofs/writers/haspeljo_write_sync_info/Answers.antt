@@ -4,4 +4,4 @@ use Rattle.haspeljo.proofs.ExportLaws.{writer_leaves}
 use Rattle.haspeljo.proofs.writers.haspeljo_write_sync_info.Goals as goal
 
 pub returns : goal.returns
-returns c = writer_leaves _ _ (rw c.network_of.ensures at (c.write_sync_info-w.ensures.value, c.write_sync_info-w.ensures.out_after)) (c.written_result.ensures.value, c.written_result.ensures.r_after)
+returns c = writer_leaves _ _ (rw c.network_of.ensures at c.write_sync_info-w.ensures.value, rw c.network_of.ensures at c.write_sync_info-w.ensures.out_after) (c.written_result.ensures.value, c.written_result.ensures.r_after)
