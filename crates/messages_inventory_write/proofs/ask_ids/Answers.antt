@@ -2,8 +2,7 @@
 use native.Mathlib.Omega.{arith}
 use mathlib.Core.Path.{sym, ◌∙◌}
 use lib.ListN.{length}
-use borrow.Author.Rules.{rules}
-use borrow.Author.Tests.{le-leb, lt-leb, not-true, not-false}
+use borrow.Author.Tests.{le-leb, lt-leb}
 use Rattle.wire.specs.Output.{asked}
 use Rattle.frame_write.specs.Asked.{frame_written_for}
 use Rattle.messages_inventory_write.specs.Asked.{ids_written_for}
@@ -32,5 +31,5 @@ unfolding ids_written_for frame_written_for asked
 returns c =
     let place = le-leb _ _ c.if-len-at.false in
     let inside = sym c.ids_inside.ensures ∙ c.if-not-ids_inside.false in
-    let size = c.ids_len.ensures ∙ sym (length-ids_bytes c.args.modifier-type c.args.ids.now c.args.buffer.now inside) in
+    let size = c.ids_len.ensures ∙ sym (length-ids_bytes c.args.modifier_type c.args.ids.now c.args.buffer.now inside) in
     rw (place, inside, le-leb (length c.args.ids.now) 400 (omega arith)) (rw (size, place) at c.ask_frame.ensures)

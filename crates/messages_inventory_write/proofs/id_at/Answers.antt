@@ -1,8 +1,7 @@
 -- `messages_inventory_write::id_at` meets its contract: the first i bytes of the id are copied.
-use Prim.Native.Nat.{◌-◌}
 use native.Mathlib.Omega.{arith}
 use mathlib.Core.Path.{refl}
-use Rattle.wire_part_write.specs.CopiedLaws.{Copied, copied_start, copied_next, copied_end}
+use Rattle.wire_part_write.specs.CopiedLaws.{copied_start, copied_next, copied_end}
 use Rattle.messages_inventory_write.proofs.id_at.Goals as goal
 
 pub loop-i-init : goal.loop-i-init

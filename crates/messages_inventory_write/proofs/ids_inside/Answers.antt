@@ -1,21 +1,13 @@
 -- `messages_inventory_write::ids_inside` meets its contract: the rows before i are inside the buffer.
-use Prim.Native.Nat.{◌+◌, ◌-◌}
+use Prim.Native.Nat.{◌+◌}
 use native.Mathlib.Omega.{arith}
-use lib.Dec.{leb}
-use lib.ListN.{length, get_or}
-use borrow.Author.Rules.{rules}
+use lib.ListN.{get_or}
 use borrow.Author.Tests.{le-leb, lt-leb}
-use Rattle.handshake.proofs.RowsLaws.{Passed, passed_start, passed-next, passed-not, passed-end}
+use Rattle.handshake.proofs.RowsLaws.{passed_start, passed-next, passed-not, passed-end}
 use Rattle.messages_inventory_write.proofs.ids_inside.Goals as goal
 
 pub loop-i-init : goal.loop-i-init
 loop-i-init c = passed_start _ _ _
-
-pub overflow_cast-ids : goal.overflow_cast-ids
-overflow_cast-ids c = omega (arith, c.shared_slice_known-1.given c.loop-i.i)
-
-pub overflow_add-ids : goal.overflow_add-ids
-overflow_add-ids c = omega (arith, c.shared_slice_known-1.given c.loop-i.i)
 
 pub returns-then-len-ids : goal.returns-then-len-ids
 returns-then-len-ids c = passed-not c.loop-i.invariant (omega arith) (lt-leb (get_or c.args.ids.now c.loop-i.i 0 + 32) c.args.len c.if-len-ids.true)

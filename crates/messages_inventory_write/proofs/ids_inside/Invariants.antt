@@ -1,11 +1,8 @@
 -- `messages_inventory_write::ids_inside` meets its contract: the rows before i are inside the buffer.
 use Prim.Native.Nat.{◌+◌, ◌-◌}
-use native.Mathlib.Omega.{arith}
 use lib.Dec.{leb}
 use lib.ListN.{length, get_or}
-use borrow.Author.Rules.{rules}
-use borrow.Author.Tests.{le-leb, lt-leb}
-use Rattle.handshake.proofs.RowsLaws.{Passed, passed_start, passed-next, passed-not, passed-end}
+use Rattle.handshake.proofs.RowsLaws.{Passed}
 use Rattle.messages_inventory_write.proofs.ids_inside.Given as goal
 
 abbrev pub invariant-loop-i : goal.invariant-loop-i

@@ -1,6 +1,5 @@
 -- `messages_inventory_write::ids_len` meets its contract: it is the sum as it stands.
 use native.Mathlib.Omega.{arith}
-use borrow.Author.Rules.{rules}
 use Rattle.vlq.proofs.VlqLaws.{vlq_ten}
 use Rattle.messages_inventory_write.proofs.ids_len.Goals as goal
 

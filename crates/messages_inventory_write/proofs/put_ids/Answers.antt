@@ -3,7 +3,6 @@ use Prim.Native.Nat.{◌+◌, ◌-◌}
 use native.Mathlib.Omega.{arith}
 use mathlib.Core.Path.{◌≡◌}
 use lib.ListN.{length}
-use borrow.Author.Rules.{rules}
 use Rattle.frame_write.specs.FrameWriteLaws.{frame_length-body, closed}
 use Rattle.messages.specs.Value.{ids_bytes}
 use Rattle.messages.specs.Writes.{ids_of}
@@ -12,14 +11,17 @@ use Rattle.messages_inventory_write.proofs.put_ids.Goals as goal
 
 pub put_body-end-requires : goal.put_body-end-requires
 put_body-end-requires c =
-    let n = length (ids_bytes c.args.modifier-type (ids_of c.args.ids.now c.args.buffer.now)) in
-    (c.requires.buffer_value, omega (arith, c.requires.buffer_in_bounds, frame_length-body n (omega (arith, length_parts c.args.modifier-type c.args.ids.now c.args.buffer.now))))
+    let n = length (ids_bytes c.args.modifier_type (ids_of c.args.ids.now c.args.buffer.now)) in
+    record {
+      buffer_value = c.requires.buffer_value;
+      buffer_in_bounds = omega (arith, c.requires.buffer_in_bounds, frame_length-body n (omega (arith, length_parts c.args.modifier_type c.args.ids.now c.args.buffer.now)));
+    }
 
 pub overflow_sub-end : goal.overflow_sub-end
 overflow_sub-end c = omega (arith, c.put_body-end.ensures.end)
 
 pub returns : goal.returns
 returns c =
-    let body = ids_bytes c.args.modifier-type (ids_of c.args.ids.now c.args.buffer.now) in
+    let body = ids_bytes c.args.modifier_type (ids_of c.args.ids.now c.args.buffer.now) in
     let z : c.put_body-end.result - (c.args.at + 13) ≡ length body = omega (arith, c.put_body-end.ensures.end) in
     closed c.args.network c.args.code c.args.out.now c.args.at body c.requires.buffer_in_bounds c.put_body-end.ensures c.requires.buffer_len_bound (rw z at c.close_frame.ensures.value) (rw z at c.close_frame.ensures.out_after)

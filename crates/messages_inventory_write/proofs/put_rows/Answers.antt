@@ -1,19 +1,13 @@
 -- `messages_inventory_write::put_rows` meets its contract: the rows before i were stored.
-use Prim.Native.Nat.{◌-◌}
 use native.Mathlib.Omega.{arith}
-use lib.ListN.{length}
-use borrow.Author.Rules.{rules}
 use Rattle.handshake.proofs.PuttingLaws.{putting_start, putting_end}
 use Rattle.messages.specs.Writes.{ids_of}
-use Rattle.messages_inventory_write.proofs.IdsLoop.{PuttingIds, id-inside, id-room, id_stored}
+use Rattle.messages_inventory_write.proofs.IdsLoop.{id-inside, id-room, id_stored}
 use Rattle.messages_inventory_write.proofs.put_rows.Goals as goal
 
 pub loop-i-init : goal.loop-i-init
 unfolding ids_of
 loop-i-init c = putting_start _ _ _ _ _ _ _ c.requires.buffer_value c.requires.buffer_in_bounds
-
-pub overflow_cast-from : goal.overflow_cast-from
-overflow_cast-from c = omega (arith, c.shared_slice_known-in-loop-i-1.given c.loop-i.i)
 
 pub id_at-id-requires : goal.id_at-id-requires
 id_at-id-requires c = id-inside c.args.ids.now c.args.buffer.now c.loop-i.invariant (omega arith)

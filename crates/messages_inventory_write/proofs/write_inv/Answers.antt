@@ -1,6 +1,5 @@
 -- `messages_inventory_write::write_inv` meets its contract: it is the message of ids with its code.
 use mathlib.Core.Path.{◌∙◌}
-use borrow.Author.Rules.{rules}
 use Rattle.messages.specs.Value.{code_of, body_bytes}
 use Rattle.messages.specs.Writes.{value_of}
 use Rattle.messages_inventory_write.proofs.InventoryWriteLaws.{said-inv}
@@ -9,4 +8,4 @@ use Rattle.messages_inventory_write.proofs.write_inv.Goals as goal
 pub returns : goal.returns
 unfolding value_of code_of body_bytes
 returns c =
-    record { value = c.write_ids.ensures.value ∙ said-inv c.args.network c.args.modifier-type c.args.ids.now c.args.buffer.now c.args.out.now c.args.at; out_after = c.write_ids.ensures.out_after }
+    record { value = c.write_ids.ensures.value ∙ said-inv c.args.network c.args.modifier_type c.args.ids.now c.args.buffer.now c.args.out.now c.args.at; out_after = c.write_ids.ensures.out_after }

@@ -1,8 +1,7 @@
 -- `messages_opaque_write::ask_unknown` meets its contract: each answer is the definition's, by the tests that led to it.
 use native.Mathlib.Omega.{arith}
 use mathlib.Core.Path.{sym, ◌∙◌}
-use borrow.Author.Rules.{rules}
-use borrow.Author.Tests.{le-leb, lt-leb, not-true, not-false}
+use borrow.Author.Tests.{le-leb, lt-leb}
 use Rattle.wire.specs.Output.{asked}
 use Rattle.vlq.specs.Vlq.{limit}
 use Rattle.frame_write.specs.Asked.{frame_written_for}

@@ -1,6 +1,5 @@
 -- `messages_opaque_write::write_sync_info` meets its contract: it is the frame of the body.
 use mathlib.Core.Path.{◌∙◌}
-use borrow.Author.Rules.{rules}
 use Rattle.messages.specs.Value.{code_of, body_bytes}
 use Rattle.messages.specs.Writes.{value_of}
 use Rattle.messages_opaque_write.proofs.MessageWriteLaws.{said-sync_info}

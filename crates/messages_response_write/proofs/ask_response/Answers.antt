@@ -3,8 +3,7 @@ use Prim.Native.Nat.{◌/◌, ◌%◌}
 use native.Mathlib.Omega.{arith}
 use mathlib.Core.Path.{sym, ◌∙◌}
 use lib.ListN.{length}
-use borrow.Author.Rules.{rules}
-use borrow.Author.Tests.{le-leb, lt-leb, eq-eqb, ne_eqb, not-true, not-false}
+use borrow.Author.Tests.{le-leb, lt-leb, eq-eqb, ne_eqb}
 use Rattle.wire.specs.Output.{asked}
 use Rattle.frame_write.specs.Asked.{frame_written_for}
 use Rattle.handshake.specs.Tables.{whole_rows, inside}
@@ -64,7 +63,7 @@ unfolding response_written_for frame_written_for asked whole_rows payload_inside
 returns c =
     let place = le-leb _ _ c.if-len-at.false in
     let parts = sym c.payloads_inside.ensures ∙ c.if-not-payloads_inside.false in
-    let size = c.response_len.ensures ∙ sym (length-response c.args.modifier-type c.args.payloads.now c.args.buffer.now parts) in
+    let size = c.response_len.ensures ∙ sym (length-response c.args.modifier_type c.args.payloads.now c.args.buffer.now parts) in
     rw (
       eq-eqb (length c.args.payloads.now % 3) 0 c.if-payloads-ne0.false,
       place,

@@ -1,6 +1,5 @@
 -- `messages_response_write::payload_inside` meets its contract, by the tests that led to each answer.
 use Prim.Native.Nat.{◌+◌}
-use borrow.Author.Rules.{rules}
 use borrow.Author.Tests.{le-leb, lt-leb}
 use Rattle.messages_response_write.proofs.payload_inside.Goals as goal
 

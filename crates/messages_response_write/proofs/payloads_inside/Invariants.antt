@@ -1,13 +1,9 @@
 -- `messages_response_write::payloads_inside` meets its contract: the rows before k are inside the buffer.
 use Prim.Native.Nat.{◌+◌, ◌-◌, ◌/◌}
-use native.Mathlib.Omega.{arith}
 use mathlib.Core.Bool.{◌&&◌}
-use mathlib.Core.Path.{sym, ◌∙◌}
 use lib.Dec.{leb}
 use lib.ListN.{length}
-use borrow.Author.Rules.{rules}
-use borrow.Author.Tests.{not-true, not-false}
-use Rattle.handshake.proofs.RowsLaws.{Passed, passed_start, passed-next, passed-not, passed-end}
+use Rattle.handshake.proofs.RowsLaws.{Passed}
 use Rattle.messages.specs.Writes.{payload_row}
 use Rattle.messages_response_write.proofs.payloads_inside.Given as goal
 

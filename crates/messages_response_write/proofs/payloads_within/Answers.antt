@@ -1,13 +1,9 @@
 -- `messages_response_write::payloads_within` meets its contract: the lengths of the rows before k are within the limit.
-use Prim.Native.Nat.{◌-◌, ◌/◌}
 use native.Mathlib.Omega.{arith}
 use mathlib.Core.Path.{sym, ap, ◌∙◌}
-use lib.ListN.{length}
-use borrow.Author.Rules.{rules}
 use borrow.Author.Tests.{le-leb, lt-leb}
 use Rattle.vlq.specs.Vlq.{limit}
-use Rattle.handshake.proofs.RowsLaws.{Passed, passed_start, passed-next, passed-not, passed-end}
-use Rattle.messages.specs.Writes.{payload_row}
+use Rattle.handshake.proofs.RowsLaws.{passed_start, passed-next, passed-not, passed-end}
 use Rattle.messages_response_write.specs.Asked.{row_within}
 use Rattle.messages_response_write.proofs.payloads_within.Goals as goal
 

@@ -3,7 +3,6 @@ use Prim.Native.Nat.{◌+◌, ◌-◌}
 use native.Mathlib.Omega.{arith}
 use mathlib.Core.List.{[]}
 use mathlib.Core.Path.{◌≡◌}
-use borrow.Author.Rules.{rules}
 use Rattle.wire.proofs.OutputLaws.{wrote_checked}
 use Rattle.wire.proofs.ReaderLaws.{length_part}
 use Rattle.handshake.specs.Tables.{bytes_at}

@@ -3,7 +3,6 @@ use Prim.Native.Nat.{◌+◌, ◌-◌}
 use native.Mathlib.Omega.{arith}
 use mathlib.Core.Path.{◌≡◌}
 use lib.ListN.{length}
-use borrow.Author.Rules.{rules}
 use Rattle.frame_write.specs.FrameWriteLaws.{frame_length-body, closed}
 use Rattle.messages_response_write.specs.Asked.{response_bytes}
 use Rattle.messages_response_write.proofs.ResponseLaws.{length_parts}
@@ -11,14 +10,17 @@ use Rattle.messages_response_write.proofs.put_response.Goals as goal
 
 pub put_body-end-requires : goal.put_body-end-requires
 put_body-end-requires c =
-    let n = length (response_bytes c.args.modifier-type c.args.payloads.now c.args.buffer.now) in
-    (c.requires.payloads_value, omega (arith, c.requires.buffer_in_bounds, frame_length-body n (omega (arith, length_parts c.args.modifier-type c.args.payloads.now c.args.buffer.now))))
+    let n = length (response_bytes c.args.modifier_type c.args.payloads.now c.args.buffer.now) in
+    record {
+      payloads_value = c.requires.payloads_value;
+      buffer_in_bounds = omega (arith, c.requires.buffer_in_bounds, frame_length-body n (omega (arith, length_parts c.args.modifier_type c.args.payloads.now c.args.buffer.now)));
+    }
 
 pub overflow_sub-end : goal.overflow_sub-end
 overflow_sub-end c = omega (arith, c.put_body-end.ensures.end)
 
 pub returns : goal.returns
 returns c =
-    let body = response_bytes c.args.modifier-type c.args.payloads.now c.args.buffer.now in
+    let body = response_bytes c.args.modifier_type c.args.payloads.now c.args.buffer.now in
     let z : c.put_body-end.result - (c.args.at + 13) ≡ length body = omega (arith, c.put_body-end.ensures.end) in
     closed c.args.network 33 c.args.out.now c.args.at body c.requires.buffer_in_bounds c.put_body-end.ensures c.requires.buffer_len_bound (rw z at c.close_frame.ensures.value) (rw z at c.close_frame.ensures.out_after)

@@ -1,11 +1,6 @@
 -- `messages_response_write::put_rows` meets its contract: the rows before k were stored.
-use Prim.Native.Nat.{◌-◌, ◌/◌}
 use native.Mathlib.Omega.{arith}
-use lib.ListN.{length}
-use borrow.Author.Rules.{rules}
-use Rattle.handshake.proofs.PuttingLaws.{Putting, putting_start, putting_passed, putting_room, putting_turn, putting_end}
-use Rattle.messages.specs.Value.{payload_bytes}
-use Rattle.messages.specs.Writes.{payload_row, payload_from_row, payload_inside}
+use Rattle.handshake.proofs.PuttingLaws.{putting_start, putting_passed, putting_room, putting_turn, putting_end}
 use Rattle.messages_response_write.proofs.put_rows.Goals as goal
 
 pub loop-k-init : goal.loop-k-init
@@ -13,7 +8,10 @@ loop-k-init c = putting_start _ _ _ _ _ _ _ c.requires.payloads_value c.requires
 
 pub put_payload-o-requires : goal.put_payload-o-requires
 put_payload-o-requires c =
-    let e = rw c.payload_at.ensures (putting_passed c.loop-k.invariant (omega arith), putting_room c.loop-k.invariant (omega arith)) in record { row_value = e.0; row_in_bounds = e.1 }
+    record {
+      row_value = rw c.payload_at.ensures (putting_passed c.loop-k.invariant (omega arith));
+      row_in_bounds = rw c.payload_at.ensures (putting_room c.loop-k.invariant (omega arith));
+    }
 
 pub loop-k-preserved : goal.loop-k-preserved
 loop-k-preserved c =

@@ -1,9 +1,7 @@
 -- `messages_response_write::put_rows` meets its contract: the rows before k were stored.
 use Prim.Native.Nat.{◌-◌, ◌/◌}
-use native.Mathlib.Omega.{arith}
 use lib.ListN.{length}
-use borrow.Author.Rules.{rules}
-use Rattle.handshake.proofs.PuttingLaws.{Putting, putting_start, putting_passed, putting_room, putting_turn, putting_end}
+use Rattle.handshake.proofs.PuttingLaws.{Putting}
 use Rattle.messages.specs.Value.{payload_bytes}
 use Rattle.messages.specs.Writes.{payload_row, payload_from_row, payload_inside}
 use Rattle.messages_response_write.proofs.put_rows.Given as goal

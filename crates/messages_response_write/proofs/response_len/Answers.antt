@@ -2,7 +2,6 @@
 use Prim.Native.Nat.{◌/◌}
 use native.Mathlib.Omega.{arith}
 use lib.ListN.{length}
-use borrow.Author.Rules.{rules}
 use Rattle.vlq.proofs.VlqLaws.{vlq_ten}
 use Rattle.messages_response_write.proofs.response_len.Goals as goal
 

@@ -1,6 +1,5 @@
 -- `messages_response_write::row_len` meets its contract: it is the sum as it stands, and a VLQ has at most ten bytes.
 use native.Mathlib.Omega.{arith}
-use borrow.Author.Rules.{rules}
 use borrow.Author.Tests.{leb-true}
 use Rattle.vlq.specs.Vlq.{limit}
 use Rattle.vlq.proofs.VlqLaws.{vlq_ten}

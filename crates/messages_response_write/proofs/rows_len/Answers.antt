@@ -1,13 +1,9 @@
 -- `messages_response_write::rows_len` meets its contract: the lengths of the rows before k were added.
-use Prim.Native.Nat.{◌-◌, ◌/◌}
 use native.Mathlib.Omega.{arith}
 use mathlib.Core.Path.{ap, ◌∙◌}
-use lib.ListN.{length}
-use borrow.Author.Rules.{rules}
-use Rattle.messages.specs.Writes.{payload_row}
 use Rattle.messages_response_write.specs.Asked.{row_within}
 use Rattle.messages_response_write.specs.Asked.{row_length}
-use Rattle.messages_response_write.proofs.LengthLoop.{Adding, adding_start, adding_within, adding_turn, adding_end}
+use Rattle.messages_response_write.proofs.LengthLoop.{adding_start, adding_within, adding_turn, adding_end}
 use Rattle.messages_response_write.proofs.rows_len.Goals as goal
 
 pub loop-k-init : goal.loop-k-init
