@@ -1,4 +1,1 @@
-pub mod Beside
-pub mod ReadWalk
-pub mod ReadCall
 pub mod HeaderLaws

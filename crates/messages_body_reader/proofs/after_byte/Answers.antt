@@ -1,5 +1,4 @@
 -- `messages_body_reader::after_byte` meets its contract: the cases of the answer.
-use borrow.Author.Rules.{rules}
 use Rattle.messages_body_reader.proofs.after_byte.Goals as goal
 
 pub returns-in-Value : goal.returns-in-Value

@@ -1,5 +1,4 @@
 -- `messages_body_reader::header_of` meets its contract: the cases of the two answers and of the test.
-use borrow.Author.Rules.{rules}
 use borrow.Author.Tests.{le-leb, lt-leb}
 use Rattle.messages.specs.Message.{max_inv_objects}
 use Rattle.messages_body_reader.proofs.header_of.Goals as goal
