@@ -4,8 +4,6 @@
 
 ghost use Rattle.std.specs.Prelude.{◌≤◌, length};
 
-use libc::{STDIN_FILENO, STDOUT_FILENO};
-
 mod input;
 mod print;
 mod readers;
@@ -14,12 +12,17 @@ mod shape;
 mod tables;
 mod writers;
 
+// The descriptors of standard input and output.
+const STDIN: i32 = 0;
+
+const STDOUT: i32 = 1;
+
 // A file of cases has at most 260,000 bytes.
 const MOST: usize = 260_000;
 
 fn main() {
     let mut cases = [0u8; 260_001];
-    let n = io::read_full(STDIN_FILENO, &mut cases);
+    let n = io::read_full(STDIN, &mut cases);
     if MOST < n {
         print_bad();
         return;
@@ -73,7 +76,7 @@ fn print_case(n: u64, case: &[u8]) -> bool {
     if !shape::is_input(function, s) {
         return false;
     }
-    io::print_decimal(STDOUT_FILENO, n);
+    io::print_decimal(STDOUT, n);
     answer(function, s, shape::bytes_of(function, s));
     print::text(b"\n");
     true

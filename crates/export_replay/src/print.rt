@@ -1,14 +1,14 @@
 // The parts of a line of the answers, each written to standard output.
-use libc::STDOUT_FILENO;
+use crate::STDOUT;
 
 pub(crate) fn text(s: &[u8]) {
-    io::write_all(STDOUT_FILENO, s);
+    io::write_all(STDOUT, s);
 }
 
 // A space, then a number.
 pub(crate) fn number(n: u64) {
     text(b" ");
-    io::print_decimal(STDOUT_FILENO, n);
+    io::print_decimal(STDOUT, n);
 }
 
 // A space before each number.
@@ -24,7 +24,7 @@ pub(crate) fn numbers(r: &[u64]) {
 pub(crate) fn signed(n: i64) {
     if n < 0 {
         text(b" -");
-        io::print_decimal(STDOUT_FILENO, magnitude(n));
+        io::print_decimal(STDOUT, magnitude(n));
     } else {
         number(magnitude(n));
     }
@@ -48,7 +48,7 @@ fn magnitude(n: i64) -> u64 {
 fn hex(s: &[u8]) {
     let mut i = 0;
     while i < s.len() {
-        io::print_hex(STDOUT_FILENO, wide(s[i]), 2);
+        io::print_hex(STDOUT, wide(s[i]), 2);
         i += 1;
     }
 }
