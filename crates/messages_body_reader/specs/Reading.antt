@@ -1,4 +1,5 @@
--- What a reader of a body answers, and where it stands afterwards: at the next place of what it read, or on a refusal where it was.
+-- What a reader of a body answers, and where it stands afterwards: at the next place of what it read, or on a refusal
+-- where it was.
 use Rattle.wire.specs.Reader.{Answer, got, refused, Reader, map_answer}
 use Rattle.types.specs.declared.BodyPlace.{BodyPlace}
 use Rattle.messages_body_reader.specs.declared.BodyReader.{BodyReader}

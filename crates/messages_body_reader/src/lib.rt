@@ -1,4 +1,5 @@
-// A thin reader of a message body: the lent body, and the place where it reads. Each of its functions takes it apart and calls the cursor of `vlq`.
+// A thin reader of a message body: the lent body, and the place where it reads. Each of its functions takes it apart
+// and calls the cursor of `vlq`.
 #![tactic(auto)]
 
 ghost use Rattle.std.specs.Prelude.{◌≡◌};
@@ -20,7 +21,8 @@ pub struct BodyReader<'a> {
     pub at: BodyPlace,
 }
 
-// Each of its functions but `new` reads where the reader stands and moves it to the next place; on a refusal the reader stays.
+// Each of its functions but `new` reads where the reader stands and moves it to the next place; on a refusal the
+// reader stays.
 impl<'a> BodyReader<'a> {
     pub fn new(body: &'a [u8], at: BodyPlace) -> BodyReader<'a>
         ensures { result ≡ record { body = body.entry; at = at } }
@@ -98,7 +100,8 @@ pub fn inventory_header(body: &[u8]) -> InventoryHeaderRead
     header_of(modifier_type, count)
 }
 
-// The header of the two answers. Where the byte was refused the reader had stayed, and the second answer is not looked at.
+// The header of the two answers. Where the byte was refused the reader had stayed, and the second answer is not
+// looked at.
 fn header_of(modifier_type: ByteRead, count: VlqRead) -> InventoryHeaderRead
     ensures { inventory_header_answer result ≡ header_of (byte_answer modifier_type) (vlq_answer count) }
 {

@@ -1,4 +1,5 @@
--- What is given of a body, from what its parts answered: of a type byte, a count and items, and of one of the items once the body is read.
+-- What is given of a body, from what its parts answered: of a type byte, a count and items, and of one of the items
+-- once the body is read.
 use Rattle.std.specs.Prelude.{ℕ, ◌≤◌, ◌<◌, List, ◌≡◌, length}
 use Rattle.std.proofs.Common.{arith}
 use Rattle.std.proofs.Math.Path.{ap}

@@ -1,4 +1,5 @@
--- Laws of `Parts`: bodies are these parts; n ids are read where 32 * n bytes are there; and the item by index is the one at that place of the list.
+-- Laws of `Parts`: bodies are these parts; n ids are read where 32 * n bytes are there; and the item by index is the
+-- one at that place of the list.
 use Rattle.std.specs.Prelude.{ℕ, zero, suc, ◌+◌, ◌*◌, ◌≤◌, ◌<◌, Bool, true, false, cond, List, [], ◌∷◌, ◌++◌, ◌⊎◌, ◌≡◌, refl, leb, length, take, drop}
 use Rattle.std.proofs.Common.{zero-add, arith, inl, inr, ap, sym, ◌∙◌, length-append, leb-true, lt-ltb, le-ltb}
 use Rattle.wire.specs.Numbers.{lt-or_ge}

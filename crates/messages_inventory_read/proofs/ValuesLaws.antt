@@ -1,4 +1,5 @@
--- What is given of a body of ids that was read says what the reading says; and items are read from the place that is given as the first one's.
+-- What is given of a body of ids that was read says what the reading says; and items are read from the place that is
+-- given as the first one's.
 use Rattle.std.specs.Prelude.{ℕ, List, map, ◌≡◌, length}
 use Rattle.wire.proofs.GivesLaws.{gives_part}
 use Rattle.wire.proofs.ListOfLaws.{listed}

@@ -1,5 +1,5 @@
-// The bodies of ModifierRequest and Inv, read from lent bytes, and what lists of ids and of payloads have in common (protocol/messages.rs). A body
-// begins at its own place 0, and every place here is a place in the body.
+// The bodies of ModifierRequest and Inv, read from lent bytes, and what lists of ids and of payloads have in common
+// (protocol/messages.rs). A body begins at its own place 0, and every place here is a place in the body.
 #![tactic(auto)]
 
 ghost use Rattle.std.specs.Prelude.{◌≡◌};

@@ -1,5 +1,5 @@
--- The payloads that a caller puts together from what the code gives of a body alone: the bytes at the places that the reader by index gives, for each
--- index below the given count.
+-- The payloads that a caller puts together from what the code gives of a body alone: the bytes at the places that the
+-- reader by index gives, for each index below the given count.
 use Rattle.std.specs.Prelude.{ℕ, List}
 use Rattle.wire.specs.Reader.{map_answer}
 use Rattle.handshake.specs.ByIndex.{by_index}

@@ -1,5 +1,5 @@
-// The body of ModifierResponse, read from lent bytes (protocol/messages.rs). A body begins at its own place 0, and every place here is a place in the
-// body.
+// The body of ModifierResponse, read from lent bytes (protocol/messages.rs). A body begins at its own place 0, and
+// every place here is a place in the body.
 #![tactic(auto)]
 
 ghost use Rattle.std.specs.Prelude.{◌≡◌, ◌+◌, leb, length};

@@ -1,4 +1,5 @@
--- `messages_body_reader::inventory_header` meets its contract: the two answers are those of a reader that moved in between.
+-- `messages_body_reader::inventory_header` meets its contract: the two answers are those of a reader that moved in
+-- between.
 use Rattle.messages_body_reader.proofs.HeaderLaws.{header-reads}
 use Rattle.messages_body_reader.proofs.inventory_header.Goals as goal
 

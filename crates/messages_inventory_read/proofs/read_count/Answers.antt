@@ -1,4 +1,5 @@
--- `messages_inventory_read::read_count` meets its contract: the definition, rewritten with what the VLQ's reader answered and with the test.
+-- `messages_inventory_read::read_count` meets its contract: the definition, rewritten with what the VLQ's reader
+-- answered and with the test.
 use mathlib.Core.Path.{sym, ap, ◌∙◌}
 use borrow.Author.Tests.{le-leb, lt-leb}
 use Rattle.vlq.specs.Answers.{vlq_answer}

@@ -1,4 +1,5 @@
--- `messages_inventory_read::read_header` meets its contract: the definition, rewritten with what each of its readers answered.
+-- `messages_inventory_read::read_header` meets its contract: the definition, rewritten with what each of its readers
+-- answered.
 use mathlib.Core.Path.{sym, ap, ◌∙◌}
 use Rattle.vlq.specs.Answers.{byte_answer}
 use Rattle.messages.specs.Message.{inventory_header}

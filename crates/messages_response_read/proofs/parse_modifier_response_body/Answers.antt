@@ -1,4 +1,5 @@
--- `messages_response_read::parse_modifier_response_body` meets its contract: as many payloads are read as the count says.
+-- `messages_response_read::parse_modifier_response_body` meets its contract: as many payloads are read as the count
+-- says.
 use mathlib.Core.Path.{sym, ap, ◌∙◌}
 use lib.ListN.{length}
 use Rattle.wire.proofs.ReaderLaws.{map-got, map-refused, map-refusal}

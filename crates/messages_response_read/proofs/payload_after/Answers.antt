@@ -1,4 +1,5 @@
--- `messages_response_read::payload_after` meets its contract: it answers what `read_payload` answers, without the lengths so far.
+-- `messages_response_read::payload_after` meets its contract: it answers what `read_payload` answers, without the
+-- lengths so far.
 use Prim.Native.Nat.{ℕ}
 use mathlib.Core.Path.{sym, ap, ◌∙◌}
 use Rattle.wire.proofs.ReaderLaws.{map-got, map-refused, map-value, map-refusal}

@@ -1,4 +1,5 @@
--- `messages_response_read::payload_by_index` meets its contract: once the body is read, the payload that is read after those before it.
+-- `messages_response_read::payload_by_index` meets its contract: once the body is read, the payload that is read
+-- after those before it.
 use mathlib.Core.Path.{sym, ap, ◌∙◌}
 use lib.ListN.{length}
 use Rattle.wire.proofs.ReaderLaws.{map-got, map-refused, map-refusal}

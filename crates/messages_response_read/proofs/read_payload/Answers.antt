@@ -1,4 +1,5 @@
--- `messages_response_read::read_payload` meets its contract: the definition, rewritten with what each of its readers answered and with the test.
+-- `messages_response_read::read_payload` meets its contract: the definition, rewritten with what each of its readers
+-- answered and with the test.
 use Prim.Native.Nat.{◌+◌}
 use native.Mathlib.Omega.{arith}
 use mathlib.Core.Path.{sym, ap, ◌∙◌}

@@ -1,5 +1,5 @@
--- `messages_response_read::skip_payloads` meets its contract. The loop's invariant and what follows from it stand in `LoopLaws` of wire and
--- `PayloadsLoop`.
+-- `messages_response_read::skip_payloads` meets its contract. The loop's invariant and what follows from it stand in
+-- `LoopLaws` of wire and `PayloadsLoop`.
 use Prim.Native.Nat.{◌-◌}
 use lib.ListN.{length}
 use Rattle.messages.specs.Message.{payload, total}
