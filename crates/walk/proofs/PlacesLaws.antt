@@ -80,7 +80,7 @@ module _ (network : Network) (cap : ℕ) (s : List ℕ) where
       let p = frame-places network s at q in
       record { within = omega (arith, p.ends, p.within); bytes = sym p.stands }
 
-  fields_placed : {at : ℕ} {g : Fields} {end : ℕ} → FieldsRead at g end → FieldsPlaced s end g
+  pub fields_placed : {at : ℕ} {g : Fields} {end : ℕ} → FieldsRead at g end → FieldsPlaced s end g
   unfolding FieldsPlaced
   fields_placed (a_handshake {h = h} {e = e} q) = let r = handshake-entry s 0 q in (gives-entry.holds h.entry e r.1).1
   fields_placed {at} (a_message {f = f} q b) =
@@ -90,9 +90,3 @@ module _ (network : Network) (cap : ℕ) (s : List ℕ) where
         ends = sym (frame-places network s at q).ends;
         placed = message-placed cap f.code f.body.bytes 0 b;
       }
-
-  pub items-placed : Each (λ i. FieldsPlaced s i.end i.holds.fields) (session_reading network cap s).items
-  unfolding session_reading
-  items-placed =
-      reading-each (session_readers network cap) s (λ i. FieldsPlaced s i.end i.holds.fields)
-      (λ at end c q. fields_placed (fields_read at end c q))
