@@ -1,4 +1,5 @@
--- What is made of numbers, computed from the definitions. Numbers of different roles are different, so that none stands for another.
+-- What is made of numbers, computed from the definitions. Numbers of different roles are different, so that none stands
+-- for another.
 use Rattle.std.specs.Prelude.{ℕ, Bool, true, false, List, [], ◌∷◌, map, ◌≡◌, refl, pos, negsuc}
 use Rattle.types.specs.declared.Network.{Network}
 use Rattle.types.specs.declared.Network.TheVariants.{Mainnet, Testnet}

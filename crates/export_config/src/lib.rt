@@ -14,8 +14,8 @@ pub enum ConfigRead {
     Refused(u8),
 }
 
-// light is 0 for a full node, verifying 0 for one that does not verify. The address is as haspeljo_parse gives it; 16 where the kind is not 0, 4 or 6,
-// or an IPv4 address has a number above 32 bits or a low half.
+// light is 0 for a full node, verifying 0 for one that does not verify. The address is as haspeljo_parse gives it; 16
+// where the kind is not 0, 4 or 6, or an IPv4 address has a number above 32 bits or a low half.
 pub fn config_from(
     network: Network,
     light: u8,

@@ -1,4 +1,5 @@
-// The address of an entry, written into a lent output from a place: what `build` is given as a value (transport/handshake.rs).
+// The address of an entry, written into a lent output from a place: what `build` is given as a value
+// (transport/handshake.rs).
 // The room is asked first, and bytes are stored only where there is some.
 #![tactic(auto)]
 

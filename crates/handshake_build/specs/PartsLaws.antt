@@ -1,5 +1,5 @@
--- Laws of the parts of `build`: a writer that is not refused ends after its bytes, the handshake is its parts one after the other, and what is asked
--- of it.
+-- Laws of the parts of `build`: a writer that is not refused ends after its bytes, the handshake is its parts one after
+-- the other, and what is asked of it.
 use Rattle.std.specs.Prelude.{ℕ, ◌+◌, ◌≤◌, ◌&&◌, ◌≡◌, refl, ℤ, length}
 use native.Mathlib.Omega.{arith}
 use Rattle.std.proofs.Math.Bool.{true}

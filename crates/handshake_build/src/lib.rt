@@ -18,8 +18,8 @@ use vlq_write::{vlq_len, write_short_string, write_vlq};
 use wire::{Size, Written};
 use wire_output::ask_output;
 
-// What `build` is given beside agent and name. In the Mode feature: the state type byte, whether transactions are verified, and how many
-// blocks are kept.
+// What `build` is given beside agent and name. In the Mode feature: the state type byte, whether transactions are
+// verified, and how many blocks are kept.
 #[derive(Clone, Copy)]
 pub struct Config {
     pub network: Network,
@@ -33,7 +33,8 @@ pub struct Config {
     pub session: i64,
 }
 
-// A handshake with the features Mode and Session. The last clause is what the types of timestamp and address say; written sessions rest on it.
+// A handshake with the features Mode and Session. The last clause is what the types of timestamp and address say;
+// written sessions rest on it.
 pub fn build(out: &mut [u8], at: usize, config: Config, agent: &[u8], name: &[u8]) -> Written
     ensures value { result ≡ built_written (config_of config agent.now name.now) out.old at }
     ensures out_after { out.new ≡ output_after result out.old at (handshake_bytes (built (config_of config agent.now name.now))) }

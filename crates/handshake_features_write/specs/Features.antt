@@ -1,4 +1,5 @@
--- The features Mode and Session of `build`, each from what it is made of: nothing else that `build` is given plays a part.
+-- The features Mode and Session of `build`, each from what it is made of: nothing else that `build` is given plays
+-- a part.
 use Rattle.std.specs.Prelude.{ℕ, Bool, false, [], ℤ, pos}
 use Rattle.types.specs.declared.Network.{Network}
 use Rattle.types.specs.declared.Network.TheVariants.{Mainnet}

@@ -1,4 +1,5 @@
--- Laws of the features of `build`: they are those of any Config with their parts, their bytes one after the other, and how many there are.
+-- Laws of the features of `build`: they are those of any Config with their parts, their bytes one after the other, and
+-- how many there are.
 use Rattle.std.specs.Prelude.{ℕ, ◌+◌, ◌^◌, ◌≤◌, ◌<◌, Bool, cond, ◌≡◌, ℤ, length}
 use Rattle.std.proofs.Common.{arith, sym, ◌∙◌, length-append}
 use mathlib.Core.List.{List, [], ◌∷◌, ◌++◌}

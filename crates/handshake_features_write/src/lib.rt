@@ -1,4 +1,5 @@
-// The features Mode and Session that `build` gives a handshake (transport/handshake.rs), written into a lent output from a place.
+// The features Mode and Session that `build` gives a handshake (transport/handshake.rs), written into a lent output
+// from a place.
 // Each writer asks the room first and stores only where there is some.
 #![tactic(auto)]
 

@@ -34,6 +34,7 @@ module _ {F G : Type 0} (g : Item F → Item G) (ends : (i : Item F) → (g i).e
   seen-ends (there m) = there (seen-ends m)
 
   ends-seen : {k : ℕ} (is : List (Item F)) → EndsAt k (map g is) → EndsAt k is
+  ends-seen [] x = elim x [ ]
   ends-seen (i ∷ is) (here e) = here (sym (ends i) ∙ e)
   ends-seen (i ∷ is) (there m) = there (ends-seen is m)
 

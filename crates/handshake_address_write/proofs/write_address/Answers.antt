@@ -1,4 +1,5 @@
--- `handshake_address_write::write_address` meets its contract: the room was asked by the address's length, and the address was stored once there was some.
+-- `handshake_address_write::write_address` meets its contract: the room was asked by the address's
+-- length, and the address was stored once there was some.
 use mathlib.Core.List.{[]}
 use mathlib.Core.Path.{refl}
 use Rattle.wire_output.specs.CheckedLaws.{accepted, stored, kept}

@@ -1,4 +1,5 @@
--- `handshake_build::build` meets its contract: every question was asked first, and the handshake was stored once all held.
+-- `handshake_build::build` meets its contract: every question was asked first, and the handshake was stored
+-- once all held.
 use mathlib.Core.List.{[], ◌∷◌}
 use mathlib.Core.Path.{refl, ap, ◌∙◌}
 use lib.ListN.{length}

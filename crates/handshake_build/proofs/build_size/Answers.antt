@@ -1,11 +1,13 @@
 -- `handshake_build::build_size` meets its contract: each answer is the definition's, by the tests that led to it.
 use native.Mathlib.Omega.{arith}
+use mathlib.Core.Bool.{true, false}
 use mathlib.Core.Path.{◌≡◌, sym, ap, ◌∙◌}
 use lib.ListN.{length}
 use borrow.Author.Tests.{le-leb, lt-leb}
 use Rattle.wire.specs.Bytes.{every}
 use Rattle.wire.specs.Output.{sized}
 use Rattle.wire.specs.declared.Size.TheVariants.{Bytes}
+use Rattle.vlq_utf8.specs.Utf8.{utf8}
 use Rattle.vlq.specs.ShortString.{max_short_string}
 use Rattle.handshake.specs.Value.{handshake_bytes, short_strings, utf8_strings, entries_asked}
 use Rattle.handshake.specs.Writes.{built}
@@ -15,31 +17,45 @@ use Rattle.handshake_build.proofs.build_size.Goals as goal
 
 pub returns-then-agent-gt-MAX_SHORT_STRING : goal.returns-then-agent-gt-MAX_SHORT_STRING
 unfolding built_size entries_asked sized every short_strings utf8_strings built
-returns-then-agent-gt-MAX_SHORT_STRING c = rw (lt-leb (length c.args.agent.now) max_short_string c.if-agent-gt-MAX_SHORT_STRING.true)
+returns-then-agent-gt-MAX_SHORT_STRING c = rw (lt-leb (length c.args.agent.now) max_short_string (omega arith))
 
 pub returns-then-name-gt-MAX_SHORT_STRING : goal.returns-then-name-gt-MAX_SHORT_STRING
 unfolding built_size entries_asked sized every short_strings utf8_strings built
-returns-then-name-gt-MAX_SHORT_STRING c = rw (le-leb (length c.args.agent.now) max_short_string c.if-agent-gt-MAX_SHORT_STRING.false, lt-leb (length c.args.name.now) max_short_string c.if-name-gt-MAX_SHORT_STRING.true)
+returns-then-name-gt-MAX_SHORT_STRING c =
+    let agent = le-leb (length c.args.agent.now) max_short_string (omega arith) in
+    let name = lt-leb (length c.args.name.now) max_short_string (omega arith) in
+    rw (agent, name)
 
 pub returns-then-not-is_utf8 : goal.returns-then-not-is_utf8
 unfolding built_size entries_asked sized every short_strings utf8_strings built
-returns-then-not-is_utf8 c = rw (le-leb (length c.args.agent.now) max_short_string c.if-agent-gt-MAX_SHORT_STRING.false, le-leb (length c.args.name.now) max_short_string c.if-name-gt-MAX_SHORT_STRING.false, sym c.is_utf8.ensures ∙ c.if-not-is_utf8.true)
+returns-then-not-is_utf8 c =
+    let agent = le-leb (length c.args.agent.now) max_short_string (omega arith) in
+    let name = le-leb (length c.args.name.now) max_short_string (omega arith) in
+    let fails : utf8 c.args.agent.now ≡ false = sym c.is_utf8.ensures ∙ c.if-not-is_utf8.true in
+    rw (agent, name, fails)
 
 pub returns-then-not-is_utf8-2 : goal.returns-then-not-is_utf8-2
 unfolding built_size entries_asked sized every short_strings utf8_strings built
-returns-then-not-is_utf8-2 c = rw (le-leb (length c.args.agent.now) max_short_string c.if-agent-gt-MAX_SHORT_STRING.false, le-leb (length c.args.name.now) max_short_string c.if-name-gt-MAX_SHORT_STRING.false, sym c.is_utf8.ensures ∙ c.if-not-is_utf8.false, sym c.is_utf8-2.ensures ∙ c.if-not-is_utf8-2.true)
+returns-then-not-is_utf8-2 c =
+    let agent = le-leb (length c.args.agent.now) max_short_string (omega arith) in
+    let name = le-leb (length c.args.name.now) max_short_string (omega arith) in
+    let holds : utf8 c.args.agent.now ≡ true = sym c.is_utf8.ensures ∙ c.if-not-is_utf8.false in
+    let fails : utf8 c.args.name.now ≡ false = sym c.is_utf8-2.ensures ∙ c.if-not-is_utf8-2.true in
+    rw (agent, name, holds, fails)
 
 pub build_len-requires : goal.build_len-requires
-build_len-requires c = (c.if-agent-gt-MAX_SHORT_STRING.false, c.if-name-gt-MAX_SHORT_STRING.false)
+build_len-requires c = (omega arith, omega arith)
 
 pub returns : goal.returns
 returns c =
     let ready : BuildReady c.args.agent.now c.args.name.now = record {
-      shortagent = c.if-agent-gt-MAX_SHORT_STRING.false;
-      shortname = c.if-name-gt-MAX_SHORT_STRING.false;
+      shortagent = omega arith;
+      shortname = omega arith;
       utfagent = sym c.is_utf8.ensures ∙ c.if-not-is_utf8.false;
       utfname = sym c.is_utf8-2.ensures ∙ c.if-not-is_utf8-2.false;
     } in
+    let head = length-head c.args.config c.args.agent.now c.args.name.now in
     let size : c.build_len.result ≡ length (handshake_bytes (built (config_of c.args.config c.args.agent.now c.args.name.now))) =
-    omega (arith, c.build_len.ensures.0, length-built c.args.config c.args.agent.now c.args.name.now, length-head c.args.config c.args.agent.now c.args.name.now) in
-    ap Bytes size ∙ sym (built_bytes_lem c.args.config c.args.agent.now c.args.name.now c.build_len.ensures.1 c.build_len.ensures.2 ready)
+    omega (arith, c.build_len.ensures.0, length-built c.args.config c.args.agent.now c.args.name.now, head) in
+    let bytes = built_bytes_lem c.args.config c.args.agent.now c.args.name.now c.build_len.ensures.1 c.build_len.ensures.2 ready in
+    ap Bytes size ∙ sym bytes

@@ -1,4 +1,5 @@
--- `handshake_features_write::mode_len` meets its contract: id and length, two bytes, the flag and what it carries, the VLQ.
+-- `handshake_features_write::mode_len` meets its contract: id and length, two bytes, the flag and what
+-- it carries, the VLQ.
 use native.Mathlib.Omega.{arith}
 use mathlib.Core.Path.{ap, ◌∙◌}
 use mir.Facts.{to_z-of_z}

@@ -1,4 +1,5 @@
--- `handshake_features_write::put_mode` meets its contract: id, length, state type and verifying, the flag and what it carries, the VLQ.
+-- `handshake_features_write::put_mode` meets its contract: id, length, state type and verifying, the flag and
+-- what it carries, the VLQ.
 use Prim.Native.Nat.{◌-◌}
 use native.Mathlib.Omega.{arith}
 use mathlib.Core.List.{[]}

@@ -1,4 +1,5 @@
--- `handshake_features_write::write_mode` meets its contract: the room was asked by the feature's length, and the feature was stored once there was some.
+-- `handshake_features_write::write_mode` meets its contract: the room was asked by the feature's length,
+-- and the feature was stored once there was some.
 use Prim.Native.Nat.{ℕ}
 use native.Mathlib.Omega.{arith}
 use mathlib.Core.List.{List, []}

@@ -10,8 +10,8 @@ use Rattle.walk_by_index.specs.InStream.{in_stream, id_in_stream}
 use Rattle.walk_by_index.proofs.InStreamLaws.{inside-within, from-outside, from-got, from-refused, id-refused, id_at_lem}
 use Rattle.walk_by_index.proofs.id_in_stream.Goals as goal
 
-part-id-by-index-end : tie.Need-slice-bounds-id-by-index-end
-part-id-by-index-end c = let w = inside-within _ _ (sym c.before.before.is-inside.ensures ∙ not-false _ c.before.if1.false) in omega (arith, w)
+pub slice_bounds-id_by_index-end : goal.slice_bounds-id_by_index-end
+slice_bounds-id_by_index-end c = let w = inside-within _ _ (sym c.is_inside.ensures ∙ c.if-not-is_inside.false) in omega (arith, w)
 
 pub returns-then-not-is_inside : goal.returns-then-not-is_inside
 unfolding id_in_stream

@@ -9,8 +9,8 @@ use Rattle.walk_by_index.specs.InStream.{payload_in_stream}
 use Rattle.walk_by_index.proofs.InStreamLaws.{inside-within, from-outside, from-got, from-refused}
 use Rattle.walk_by_index.proofs.payload_in_stream.Goals as goal
 
-part-payload-by-index-end : tie.Need-slice-bounds-payload-by-index-end
-part-payload-by-index-end c = let w = inside-within _ _ (sym c.before.before.is-inside.ensures ∙ not-false _ c.before.if1.false) in omega (arith, w)
+pub slice_bounds-payload_by_index-end : goal.slice_bounds-payload_by_index-end
+slice_bounds-payload_by_index-end c = let w = inside-within _ _ (sym c.is_inside.ensures ∙ c.if-not-is_inside.false) in omega (arith, w)
 
 pub returns-then-not-is_inside : goal.returns-then-not-is_inside
 unfolding payload_in_stream
