@@ -26,7 +26,7 @@ pub slice_bounds-print_session-end : goal.slice_bounds-print_session-end
 slice_bounds-print_session-end c = sym (length-take-le _ _ (omega (arith, c.least.ensures)))
 
 pub returns-in-Bytes : goal.returns-in-Bytes
-returns-in-Bytes c = read-bytes _ _ _ _ _ c.read.given.1 c.least.ensures c.print_session.ensures
+returns-in-Bytes c = read-bytes _ _ _ _ _ c.in-Bytes.is c.least.ensures c.print_session.ensures
 
 pub returns-in-Failed : goal.returns-in-Failed
 returns-in-Failed c = not-read _ _ c.in-Failed.is

@@ -5,4 +5,4 @@ use Rattle.report_lines.proofs.handshake_line.Goals as goal
 
 pub returns : goal.returns
 unfolding handshake_item_line
-returns c = let e = (c.put_handshake.ensures.wrote, c.put_handshake.ensures.upper_bound) in record { wrote = e.0; upper_bound = e.1 }
+returns c = record { wrote = c.put_handshake.ensures.wrote; upper_bound = c.put_handshake.ensures.upper_bound }

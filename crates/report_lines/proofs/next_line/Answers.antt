@@ -26,4 +26,4 @@ returns-in-Message c =
 pub returns-in_default : goal.returns-in_default
 unfolding next_of
 returns-in_default c =
-    record { value = rw (line-end c.step_line-len.ensures.wrote, ← c.step-step.ensures) (last_step c.step-step.result c.args.at (length c.args.s.now) c.in_default.keys3); line_after = rw (← c.step-step.ensures) c.step_line-len.ensures.wrote.bytes; len_bound = c.step_line-len.ensures.upper_bound }
+    record { value = rw (line-end c.step_line-len.ensures.wrote, ← c.step-step.ensures) (last_step c.step-step.result c.args.at (length c.args.s.now) c.in_default.not-Handshake c.in_default.not-Message); line_after = rw (← c.step-step.ensures) c.step_line-len.ensures.wrote.bytes; len_bound = c.step_line-len.ensures.upper_bound }
