@@ -1,7 +1,7 @@
 -- By which readers an item of a session was read, and that its bytes stand at its places.
-use Prim.Native.Nat.{ℕ, zero, suc, ◌+◌, ◌≤◌}
-use Rattle.std.proofs.Common.{arith, ap, ◌∙◌}
-use Rattle.std.specs.Prelude.{List, length, take, drop}
+use Prim.Native.Nat.{ℕ, zero, suc}
+use Rattle.std.proofs.Common.{arith}
+use Rattle.std.specs.Prelude.{List}
 use Rattle.std.proofs.Math.Path.{◌≡◌, refl, sym}
 use Rattle.wire.specs.Bytes.{Each, none, more}
 use Rattle.wire.specs.Reader.{Answer, got, refused}
@@ -15,8 +15,7 @@ use Rattle.messages.specs.Message.{Message, message}
 use Rattle.messages.proofs.PlacesLaws.{message-placed}
 use Rattle.walk.specs.Walk.{Opened, opened, Item, walk, reading}
 use Rattle.walk.proofs.WalkLaws.{open_at, ReaderLaws, Walks, over, stops, goes, walks, walk-over, walk-stops, walk-goes}
-use Rattle.walk.specs.Session.{Fields, handshake_fields, message_fields, Content, handshake_item, message_item, frame_item, handshake_at, message_at, session_reading}
-use Rattle.walk.proofs.SessionLaws.{session_readers}
+use Rattle.walk.specs.Session.{Fields, handshake_fields, message_fields, Content, handshake_item, message_item, frame_item, handshake_at, message_at}
 use Rattle.walk.specs.Places.{FieldsPlaced}
 
 -- ---- each item of a walk was opened at its place

@@ -1,6 +1,5 @@
 -- `haspeljo::haspeljo_is_bogus_v4` meets its contract: the number is that of the judgement on the network.
 use mathlib.Core.Path.{sym, ◌∙◌}
-use borrow.Author.Rules.{rules}
 use Rattle.haspeljo.proofs.haspeljo_is_bogus_v4.Goals as goal
 
 pub returns-then-is_bogus_address : goal.returns-then-is_bogus_address

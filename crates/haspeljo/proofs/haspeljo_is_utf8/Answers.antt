@@ -1,6 +1,5 @@
 -- `haspeljo::haspeljo_is_utf8` meets its contract: the number is that of the test.
 use mathlib.Core.Path.{sym, ◌∙◌}
-use borrow.Author.Rules.{rules}
 use Rattle.haspeljo.proofs.haspeljo_is_utf8.Goals as goal
 
 pub returns-then-is_utf8 : goal.returns-then-is_utf8

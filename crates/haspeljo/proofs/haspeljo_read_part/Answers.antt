@@ -2,7 +2,6 @@
 use mathlib.Core.Path.{refl}
 use Rattle.vlq.specs.Answers.{part_answer}
 use Rattle.haspeljo.proofs.ExportLaws.{reader-got, reader-refused}
-use borrow.Author.Rules.{rules}
 use Rattle.haspeljo.proofs.haspeljo_read_part.Goals as goal
 
 pub returns-in-Value : goal.returns-in-Value

@@ -2,7 +2,6 @@
 use mathlib.Core.Path.{ap, ◌∙◌}
 use mir.Facts.{to_z-of_z}
 use Rattle.vlq_zigzag.specs.Zigzag.{zigzag_encode}
-use borrow.Author.Rules.{rules}
 use Rattle.haspeljo.proofs.haspeljo_zigzag_encode.Goals as goal
 
 pub returns : goal.returns

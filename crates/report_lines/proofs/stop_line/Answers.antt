@@ -1,6 +1,5 @@
 -- `report_lines::stop_line` meets its contract: by the layer.
 use Rattle.report_lines.specs.StepLines.{stop_text}
-use borrow.Author.Rules.{rules}
 use Rattle.report_lines.proofs.stop_line.Goals as goal
 
 pub returns-in-Handshake : goal.returns-in-Handshake

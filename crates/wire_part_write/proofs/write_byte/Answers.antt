@@ -1,7 +1,6 @@
 -- `wire_part_write::write_byte` meets its contract: the questions were answered by sizes, and the byte was stored once there was room.
 use native.Mathlib.Omega.{arith}
 use mathlib.Core.List.{[], ◌∷◌}
-use borrow.Author.Rules.{rules}
 use Rattle.wire.proofs.OutputLaws.{wrote_byte}
 use Rattle.wire_output.specs.CheckedLaws.{accepted, stored, kept}
 use Rattle.wire_part_write.proofs.write_byte.Goals as goal

@@ -1,6 +1,5 @@
 -- `wire_part_write::write_part` meets its contract: the questions were answered by sizes, and the part was stored once there was room.
 use mathlib.Core.List.{[]}
-use borrow.Author.Rules.{rules}
 use Rattle.wire_output.specs.CheckedLaws.{accepted, stored, kept}
 use Rattle.wire_part_write.proofs.write_part.Goals as goal
 

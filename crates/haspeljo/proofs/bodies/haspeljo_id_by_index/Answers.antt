@@ -2,7 +2,6 @@
 use mathlib.Core.Path.{refl}
 use Rattle.messages_inventory_read.specs.Answers.{id_answer}
 use Rattle.haspeljo.proofs.ExportLaws.{reader-got, reader-refused}
-use borrow.Author.Rules.{rules}
 use Rattle.haspeljo.proofs.bodies.haspeljo_id_by_index.Goals as goal
 
 pub returns-in-Value : goal.returns-in-Value

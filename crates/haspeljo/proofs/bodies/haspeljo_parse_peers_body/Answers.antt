@@ -7,7 +7,6 @@ use Rattle.messages_read.specs.declared.Message.{Message}
 use Rattle.messages_read.specs.declared.Message.TheVariants as Messages
 use Rattle.messages_read.specs.AnswersLaws.{peers-message}
 use Rattle.haspeljo.proofs.ExportLaws.{reader-got, reader-refused, peers-numbers}
-use borrow.Author.Rules.{rules}
 use Rattle.haspeljo.proofs.bodies.haspeljo_parse_peers_body.Goals as goal
 
 abbrev answered : PeersRead → Answer Message

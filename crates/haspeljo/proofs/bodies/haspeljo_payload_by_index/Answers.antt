@@ -2,7 +2,6 @@
 use mathlib.Core.Path.{refl}
 use Rattle.messages_response_read.specs.Answers.{payload_by_index_answer}
 use Rattle.haspeljo.proofs.ExportLaws.{reader-got, reader-refused}
-use borrow.Author.Rules.{rules}
 use Rattle.haspeljo.proofs.bodies.haspeljo_payload_by_index.Goals as goal
 
 pub returns-in-Value : goal.returns-in-Value

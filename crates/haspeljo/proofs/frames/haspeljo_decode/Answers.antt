@@ -2,7 +2,6 @@
 use mathlib.Core.Path.{refl}
 use Rattle.frame_read.specs.Answers.{frame_answer}
 use Rattle.haspeljo.proofs.ExportLaws.{reader-got, reader-refused}
-use borrow.Author.Rules.{rules}
 use Rattle.haspeljo.proofs.frames.haspeljo_decode.Goals as goal
 
 pub returns-in-Value : goal.returns-in-Value

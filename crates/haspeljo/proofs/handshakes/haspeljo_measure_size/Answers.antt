@@ -2,7 +2,6 @@
 use mathlib.Core.Path.{refl}
 use Rattle.handshake_read.specs.Answers.{size_answer}
 use Rattle.haspeljo.proofs.ExportLaws.{reader-got, reader-refused}
-use borrow.Author.Rules.{rules}
 use Rattle.haspeljo.proofs.handshakes.haspeljo_measure_size.Goals as goal
 
 pub returns-in-Size : goal.returns-in-Size

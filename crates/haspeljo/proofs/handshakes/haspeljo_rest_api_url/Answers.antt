@@ -2,7 +2,6 @@
 use mathlib.Core.Path.{refl}
 use Rattle.handshake_verdict.specs.Answers.{url_answer}
 use Rattle.haspeljo.proofs.ExportLaws.{reader-got, reader-refused}
-use borrow.Author.Rules.{rules}
 use Rattle.haspeljo.proofs.handshakes.haspeljo_rest_api_url.Goals as goal
 
 pub returns-in-Value : goal.returns-in-Value

@@ -2,7 +2,6 @@
 use mathlib.Core.Path.{refl}
 use Rattle.walk_by_index.specs.Answers.{stream_entry_answer}
 use Rattle.haspeljo.proofs.ExportLaws.{reader-got, reader-refused}
-use borrow.Author.Rules.{rules}
 use Rattle.haspeljo.proofs.sessions.haspeljo_entry_in_stream.Goals as goal
 
 pub returns-in-Value : goal.returns-in-Value

@@ -1,5 +1,4 @@
 -- `haspeljo::sessions::haspeljo_step` meets its contract: number and array are those of the step.
-use borrow.Author.Rules.{rules}
 use Rattle.haspeljo.proofs.sessions.haspeljo_step.Goals as goal
 
 pub returns : goal.returns

@@ -1,5 +1,4 @@
 -- `haspeljo::writers::haspeljo_write_get_peers` meets its contract: what the writer said is returned, and the output is as it left it.
-use borrow.Author.Rules.{rules}
 use Rattle.haspeljo.proofs.ExportLaws.{writer_leaves}
 use Rattle.haspeljo.proofs.writers.haspeljo_write_get_peers.Goals as goal
 

@@ -1,5 +1,4 @@
 -- `haspeljo::writers::written_result` meets its contract: by the two cases of what was said.
-use borrow.Author.Rules.{rules}
 use Rattle.haspeljo.specs.Results.{written_number, end_after}
 use Rattle.haspeljo.proofs.writers.written_result.Goals as goal
 
