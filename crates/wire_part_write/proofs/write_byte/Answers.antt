@@ -15,4 +15,4 @@ returns-in-To c =
 pub returns-in_default : goal.returns-in_default
 returns-in_default c =
     let e = kept [] [] _ _ (c.args.b ∷ []) c.ask_room-answer.ensures c.in_default.is
- in record { value = e.0; out_after = e.1 }
+    in record { value = e.0; out_after = e.1 }
