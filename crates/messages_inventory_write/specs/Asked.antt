@@ -1,10 +1,5 @@
-<<<<<<< HEAD
--- What the writers of ModifierRequest and Inv say of an output of len bytes, by sizes: the questions of `message_written` that are not answered
--- "yes" by what the message is.
-=======
 -- What the writers of ModifierRequest and Inv say of an output of len bytes, by sizes: the questions of
 -- `message_written` that are not answered "yes" by what the message is.
->>>>>>> 70826bf33d116f66c4d1f1fea3dbbaf4c1ca5dcd
 -- Only for laws, proofs and private functions: no public contract and no theorem cites what follows.
 use Rattle.std.specs.Prelude.{ℕ, ◌+◌, Bool, List, [], ◌∷◌, leb, length}
 use Rattle.wire.specs.Bytes.{every}
