@@ -1,5 +1,5 @@
 -- `report::print_read` meets its contract: `unread` and its line end are seven bytes, and otherwise the bytes are those of what was read.
-use Rattle.std.proofs.Common.{◌≡◌, ℕ, ◌%◌, ◌^◌, ◌<◌, ◌≤◌, min, List, length, take, sym, refl, ap, ◌∙◌, ⊎_elim, arith, length-take-le, take_all, rules}
+use Rattle.std.proofs.Common.{◌≡◌, ℕ, ◌%◌, ◌^◌, ◌<◌, ◌≤◌, min, List, length, take, sym, ap, ◌∙◌, ⊎_elim, arith, length-take-le, take_all}
 use Rattle.wire.specs.Numbers.{lt-or_ge}
 use Rattle.report_input_read.specs.declared.Input.{Input}
 use Rattle.report_input_read.specs.declared.Input.TheVariants.{Bytes, Failed}

@@ -1,8 +1,7 @@
 -- `report::print_report` meets its contract: each turn prints a block, and the rest of the report is to come.
-use Rattle.std.proofs.Common.{ℕ, rules}
+use Rattle.std.proofs.Common.{ℕ}
 use lib.ListN.{length-replicate}
-use Rattle.report.proofs.ReportLaws.{lines_from}
-use Rattle.report.proofs.BlockLaws.{Printed, print_start, print_turn, print_end}
+use Rattle.report.proofs.BlockLaws.{print_start, print_turn, print_end}
 use Rattle.report.proofs.print_report.Goals as goal
 
 pub loop-more-init : goal.loop-more-init

@@ -1,6 +1,5 @@
 -- `report_lines::handshake_line` meets its contract: the numbers of the item.
 use Rattle.report_lines.specs.StepLines.{handshake_item_line}
-use borrow.Author.Rules.{rules}
 use Rattle.report_lines.proofs.handshake_line.Goals as goal
 
 pub returns : goal.returns

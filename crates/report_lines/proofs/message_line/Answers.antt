@@ -1,7 +1,6 @@
 -- `report_lines::message_line` meets its contract: by the kind of message.
 use Rattle.report_lines.specs.StepLines.{message_of_line}
 use Rattle.report_lines.proofs.OtherLaws.{other-message}
-use borrow.Author.Rules.{rules}
 use Rattle.report_lines.proofs.message_line.Goals as goal
 
 pub returns-in-Peers : goal.returns-in-Peers

@@ -7,7 +7,6 @@ use lib.ListN.{length}
 use Rattle.wire.specs.Output.{Wrote}
 use Rattle.report_lines.specs.NextLines.{next_of}
 use Rattle.report_lines.proofs.LastLaws.{last_step}
-use borrow.Author.Rules.{rules}
 use Rattle.report_lines.proofs.next_line.Goals as goal
 
 line-end : {out bs last : List ℕ} {e : ℕ} → Wrote out 0 bs e last → e ≡ length bs

@@ -2,7 +2,6 @@
 use native.Mathlib.Omega.{arith}
 use Rattle.wire.proofs.OutputLaws.{wrote_none}
 use Rattle.report_lines.specs.StepLines.{line_of}
-use borrow.Author.Rules.{rules}
 use Rattle.report_lines.proofs.step_line.Goals as goal
 
 pub returns-in-Handshake : goal.returns-in-Handshake
