@@ -11,6 +11,7 @@ use std::io::{Error, Read, Result};
 const STDIN: i32 = 0;
 
 // An input of which no byte can be read.
+#[derive(Drop)]
 struct Unreadable;
 
 impl Read for Unreadable {

@@ -1,5 +1,5 @@
 -- `report::put_lines` meets its contract: each turn stores the line of a step, and what is to come is the block in the room that is left.
-use Rattle.std.proofs.Common.{◌-◌, sym, refl, arith, length-take-le}
+use Rattle.std.proofs.Common.{sym, refl, arith, length-take-le}
 use Rattle.report.proofs.BlockLaws.{line-room, laying_start, laying_turn, laying_last, laying_full}
 use Rattle.report.proofs.put_lines.Goals as goal
 

@@ -1,5 +1,4 @@
 -- `report::put_lines` meets its contract: each turn stores the line of a step, and what is to come is the block in the room that is left.
-use Rattle.std.proofs.Common.{◌-◌}
 use Rattle.report.proofs.ReportLaws.{lines_from}
 use Rattle.report.proofs.BlockLaws.{Laying}
 use Rattle.report.proofs.put_lines.Given as goal

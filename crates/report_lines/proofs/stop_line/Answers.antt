@@ -4,12 +4,12 @@ use Rattle.report_lines.proofs.stop_line.Goals as goal
 
 pub returns-in-Handshake : goal.returns-in-Handshake
 unfolding stop_text
-returns-in-Handshake c = record { wrote = rw c.in-Handshake.is c.put_handshake_stop.ensures.wrote; upper_bound = c.put_handshake_stop.ensures.upper_bound }
+returns-in-Handshake c = record { wrote = rw c.in-Handshake.is (search rules); upper_bound = search rules }
 
 pub returns-in-Frame : goal.returns-in-Frame
 unfolding stop_text
-returns-in-Frame c = record { wrote = rw c.in-Frame.is c.put_frame_stop.ensures.wrote; upper_bound = c.put_frame_stop.ensures.upper_bound }
+returns-in-Frame c = record { wrote = rw c.in-Frame.is (search rules); upper_bound = search rules }
 
 pub returns-in-Body : goal.returns-in-Body
 unfolding stop_text
-returns-in-Body c = record { wrote = rw c.in-Body.is c.put_body_stop.ensures.wrote; upper_bound = c.put_body_stop.ensures.upper_bound }
+returns-in-Body c = record { wrote = rw c.in-Body.is (search rules); upper_bound = search rules }
