@@ -4,8 +4,7 @@ PREFIX = /usr/local
 DESTDIR =
 
 version := $(shell sed -n 's/^version = "\(.*\)"$$/\1/p' rust/Cargo.toml)
-sources := crates.txt $(shell find crates -name must-fail -prune -o -type f -print)
-below := $(shell sed -n 's/^haspeljo: //p' crates.txt)
+sources := crates.txt $(shell find crates \( -name must-fail -o -name out \) -prune -o -type f -print)
 program = cli/target/release/haspeljo
 example = \254\002\002ab\006\000\001\000\000\000\001\000\002\004\001\000\000\000\000
 
@@ -27,10 +26,11 @@ all: program
 
 library: $(library)
 
-# rt check proves several crates at a time, rt staticlib one after the other.
+# rt lib proves the crate and those below it.
 target/staticlib/libhaspeljo.a: $(sources)
-	rt check $(below)
-	rt staticlib haspeljo
+	cd crates/haspeljo_c && rt lib
+	mkdir -p target/staticlib
+	cp crates/haspeljo_c/out/libhaspeljo_c.a $@
 
 program: library
 	cd cli && cargo build --release --offline --target-dir target

@@ -1,11 +1,11 @@
-//! Links the static library of the Rattle crate `haspeljo`, and names its archive to the build scripts of
+//! Links the static library of the Rattle crate `haspeljo_c`, and names its archive to the build scripts of
 //! crates that depend on this one.
 
 use std::env;
 use std::path::PathBuf;
 
-/// Where `rt staticlib haspeljo` puts its archive unless `HASPELJO_LIB_DIR` says otherwise, seen from
-/// the folder `rust`.
+/// Where `make library` puts the archive unless `HASPELJO_LIB_DIR` says otherwise, seen from the folder
+/// `rust`.
 const DEFAULT: &str = "../target/staticlib";
 
 fn main() {
@@ -15,7 +15,7 @@ fn main() {
     let folder = here.parent().unwrap().join(folder);
     let archive = folder.join("libhaspeljo.a");
     let shown = archive.display();
-    assert!(archive.is_file(), "{shown} is missing: run `rt staticlib haspeljo` in the repository");
+    assert!(archive.is_file(), "{shown} is missing: run `make library` in the repository");
     println!("cargo:rerun-if-changed={shown}");
     println!("cargo:archive={shown}");
     println!("cargo:rustc-link-search=native={}", folder.display());

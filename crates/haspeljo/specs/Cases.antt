@@ -1,6 +1,6 @@
 -- What an exported function makes of numbers, computed from the definitions. Numbers of different roles are different, so that
 -- none stands for another.
-use Rattle.std.specs.Prelude.{ℕ, Bool, true, false, ◌≡◌, refl, pos, negsuc, replicate}
+use Rattle.std.specs.Prelude.{ℕ, true, false, ◌≡◌, refl, pos, negsuc, replicate}
 use mathlib.Core.List.{List, [], ◌∷◌, map, flat_map}
 use Rattle.wire.specs.Bytes.{big_endian_bytes, every}
 use Rattle.wire.specs.Output.{asked, written}

@@ -24,14 +24,7 @@ use types::BodyPlace;
 
 // The body of a frame as the message of the frame's code. r is the type byte, the count, how many entries have a bogus address, and the place
 // of the first id, payload or entry, each 0 where the message has none; and the next place.
-#[unsafe(no_mangle)]
-pub extern "C" fn haspeljo_from_frame(
-    body: &[u8],
-    mainnet: u8,
-    cap: usize,
-    code: u8,
-    r: &mut [u64; 5],
-) -> u8
+pub fn haspeljo_from_frame(body: &[u8], mainnet: u8, cap: usize, code: u8, r: &mut [u64; 5]) -> u8
     ensures { ReaderLeaves message_numbers (map_answer (message_of (network_of mainnet) body.now) (message cap code body.now 0)) result
         r.old r.new }
 {
@@ -45,13 +38,7 @@ pub extern "C" fn haspeljo_from_frame(
 }
 
 // A Peers body. r is as for haspeljo_from_frame.
-#[unsafe(no_mangle)]
-pub extern "C" fn haspeljo_parse_peers_body(
-    body: &[u8],
-    mainnet: u8,
-    cap: usize,
-    r: &mut [u64; 5],
-) -> u8
+pub fn haspeljo_parse_peers_body(body: &[u8], mainnet: u8, cap: usize, r: &mut [u64; 5]) -> u8
     ensures { ReaderLeaves message_numbers (map_answer (message_of (network_of mainnet) body.now) (peers_body cap body.now 0)) result
         r.old r.new }
 {
@@ -71,13 +58,7 @@ pub extern "C" fn haspeljo_parse_peers_body(
 }
 
 // An entry of a Peers body, by index. r is as for haspeljo_parse_peer_entry.
-#[unsafe(no_mangle)]
-pub extern "C" fn haspeljo_entry_by_index(
-    body: &[u8],
-    cap: usize,
-    index: usize,
-    r: &mut [u64; 15],
-) -> u8
+pub fn haspeljo_entry_by_index(body: &[u8], cap: usize, index: usize, r: &mut [u64; 15]) -> u8
     ensures { ReaderLeaves entry_next (map_answer peer_spec_of (entry_at cap index body.now)) result
         r.old r.new }
 {
@@ -91,8 +72,7 @@ pub extern "C" fn haspeljo_entry_by_index(
 }
 
 // An id of a ModifierRequest or Inv body, by index: r is its place.
-#[unsafe(no_mangle)]
-pub extern "C" fn haspeljo_id_by_index(body: &[u8], index: usize, r: &mut [u64; 1]) -> u8
+pub fn haspeljo_id_by_index(body: &[u8], index: usize, r: &mut [u64; 1]) -> u8
     ensures { ReaderLeaves id_only (map_answer id_of (id_at index body.now)) result r.old r.new }
 {
     match messages_inventory_read::id_by_index(body, index) {
@@ -106,13 +86,7 @@ pub extern "C" fn haspeljo_id_by_index(body: &[u8], index: usize, r: &mut [u64; 
 
 // The payload at a place of a ModifierResponse body, where the payloads before it have total bytes together. r is the place of its id, the place
 // and length of its bytes, the next place, and the total with it.
-#[unsafe(no_mangle)]
-pub extern "C" fn haspeljo_read_payload(
-    body: &[u8],
-    at: usize,
-    total: usize,
-    r: &mut [u64; 5],
-) -> u8
+pub fn haspeljo_read_payload(body: &[u8], at: usize, total: usize, r: &mut [u64; 5]) -> u8
     ensures { ReaderLeaves payload_total (map_answer (payload_sum total) (payload_after (length body.now) total body.now at)) result
         r.old r.new }
 {
@@ -132,8 +106,7 @@ pub extern "C" fn haspeljo_read_payload(
 }
 
 // A payload of a ModifierResponse body, by index. r is the place of its id, the place and length of its bytes, and where it ends.
-#[unsafe(no_mangle)]
-pub extern "C" fn haspeljo_payload_by_index(body: &[u8], index: usize, r: &mut [u64; 4]) -> u8
+pub fn haspeljo_payload_by_index(body: &[u8], index: usize, r: &mut [u64; 4]) -> u8
     ensures { ReaderLeaves payload_next (map_answer payload_of (payload_at index body.now)) result
         r.old r.new }
 {

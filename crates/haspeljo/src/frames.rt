@@ -10,8 +10,7 @@ use frame_read::FrameRead;
 use types::StreamPlace;
 
 // The frame at a place: r is its code, the place and length of its body, and the next place.
-#[unsafe(no_mangle)]
-pub extern "C" fn haspeljo_decode(s: &[u8], at: usize, mainnet: u8, r: &mut [u64; 4]) -> u8
+pub fn haspeljo_decode(s: &[u8], at: usize, mainnet: u8, r: &mut [u64; 4]) -> u8
     ensures { ReaderLeaves frame_next (map_answer frame_of (frame (network_of mainnet) s.now at)) result
         r.old r.new }
 {

@@ -17,8 +17,7 @@ use vlq::Cursor;
 // A handshake from the first byte on. r is the timestamp; of the entry the agent's place and length, three version numbers, the name's place and
 // length, the address (0 for none, 4 or 6; its number, of IPv6 the high and the low half; its port), how many features there are and the place of
 // the first; and the next place.
-#[unsafe(no_mangle)]
-pub extern "C" fn haspeljo_parse(s: &[u8], r: &mut [u64; 15]) -> u8
+pub fn haspeljo_parse(s: &[u8], r: &mut [u64; 15]) -> u8
     ensures { ReaderLeaves handshake_next (map_answer handshake_of (handshake s.now 0)) result
         r.old r.new }
 {
@@ -32,8 +31,7 @@ pub extern "C" fn haspeljo_parse(s: &[u8], r: &mut [u64; 15]) -> u8
 }
 
 // r is how many bytes the handshake takes.
-#[unsafe(no_mangle)]
-pub extern "C" fn haspeljo_measure_size(s: &[u8], r: &mut [u64; 1]) -> u8
+pub fn haspeljo_measure_size(s: &[u8], r: &mut [u64; 1]) -> u8
     ensures { ReaderLeaves size_only (and_then handshake (λ h. place) s.now 0) result r.old r.new }
 {
     match handshake_read::measure_size(s) {
@@ -46,8 +44,7 @@ pub extern "C" fn haspeljo_measure_size(s: &[u8], r: &mut [u64; 1]) -> u8
 }
 
 // An entry at a place. r is 0, and then as for a handshake.
-#[unsafe(no_mangle)]
-pub extern "C" fn haspeljo_parse_peer_entry(s: &[u8], at: usize, r: &mut [u64; 15]) -> u8
+pub fn haspeljo_parse_peer_entry(s: &[u8], at: usize, r: &mut [u64; 15]) -> u8
     ensures { ReaderLeaves entry_next (map_answer peer_spec_of (entry s.now at)) result r.old r.new }
 {
     match handshake_read::parse_peer_entry(s, Cursor { at }) {
@@ -60,8 +57,7 @@ pub extern "C" fn haspeljo_parse_peer_entry(s: &[u8], at: usize, r: &mut [u64; 1
 }
 
 // The feature at a place: r is its id, the place and length of its body, and the next place.
-#[unsafe(no_mangle)]
-pub extern "C" fn haspeljo_read_feature(s: &[u8], at: usize, r: &mut [u64; 4]) -> u8
+pub fn haspeljo_read_feature(s: &[u8], at: usize, r: &mut [u64; 4]) -> u8
     ensures { ReaderLeaves feature_next (map_answer feature_of (feature s.now at)) result r.old r.new }
 {
     match handshake_read::read_feature(s, Cursor { at }) {
@@ -79,13 +75,7 @@ pub extern "C" fn haspeljo_read_feature(s: &[u8], at: usize, r: &mut [u64; 4]) -
 }
 
 // A feature of the entry at a place, by index.
-#[unsafe(no_mangle)]
-pub extern "C" fn haspeljo_feature_by_index(
-    s: &[u8],
-    at: usize,
-    index: usize,
-    r: &mut [u64; 4],
-) -> u8
+pub fn haspeljo_feature_by_index(s: &[u8], at: usize, index: usize, r: &mut [u64; 4]) -> u8
     ensures { ReaderLeaves feature_next (map_answer feature_of (feature_at index s.now at)) result
         r.old r.new }
 {
@@ -104,8 +94,7 @@ pub extern "C" fn haspeljo_feature_by_index(
 }
 
 // r is the verdict on the handshake, and where the handshake ends.
-#[unsafe(no_mangle)]
-pub extern "C" fn haspeljo_validate_peer(s: &[u8], mainnet: u8, r: &mut [u64; 2]) -> u8
+pub fn haspeljo_validate_peer(s: &[u8], mainnet: u8, r: &mut [u64; 2]) -> u8
     ensures { ReaderLeaves value_next (map_answer (handshake_verdict (network_of mainnet)) (handshake s.now 0)) result
         r.old r.new }
 {
@@ -119,8 +108,7 @@ pub extern "C" fn haspeljo_validate_peer(s: &[u8], mainnet: u8, r: &mut [u64; 2]
 }
 
 // r is the verdict on the entry at a place, and where the entry ends.
-#[unsafe(no_mangle)]
-pub extern "C" fn haspeljo_validate_entry(s: &[u8], at: usize, mainnet: u8, r: &mut [u64; 2]) -> u8
+pub fn haspeljo_validate_entry(s: &[u8], at: usize, mainnet: u8, r: &mut [u64; 2]) -> u8
     ensures { ReaderLeaves value_next (map_answer (validate_peer (network_of mainnet)) (entry s.now at)) result
         r.old r.new }
 {
@@ -134,8 +122,7 @@ pub extern "C" fn haspeljo_validate_entry(s: &[u8], at: usize, mainnet: u8, r: &
 }
 
 // The REST API URL of the entry at a place: r is 1, its place and length; or three zeros if there is none; and where the entry ends.
-#[unsafe(no_mangle)]
-pub extern "C" fn haspeljo_rest_api_url(s: &[u8], at: usize, r: &mut [u64; 4]) -> u8
+pub fn haspeljo_rest_api_url(s: &[u8], at: usize, r: &mut [u64; 4]) -> u8
     ensures { ReaderLeaves url_next (map_answer entry_url (entry s.now at)) result r.old r.new }
 {
     match handshake_verdict::rest_api_url(s, Cursor { at }) {

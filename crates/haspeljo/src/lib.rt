@@ -1,5 +1,5 @@
-// The functions that Rust and C link. One that can refuse returns 0, or document 01's refusal number with the lent array and output as they were.
-// A slice passes as a pointer and a length, an array as a pointer.
+// The functions that Rust and C link, in a form that C can call; the crate haspeljo_c exports them. One that can refuse
+// returns 0, or document 01's refusal number with the lent array and output as they were.
 #![tactic(auto)]
 
 ghost use Rattle.std.specs.Prelude.{◌≡◌};
@@ -25,8 +25,7 @@ use types::Address;
 use vlq::{ByteRead, Cursor, PartRead, VlqRead};
 
 // r is the value and the next place.
-#[unsafe(no_mangle)]
-pub extern "C" fn haspeljo_read_byte(s: &[u8], at: usize, r: &mut [u64; 2]) -> u8
+pub fn haspeljo_read_byte(s: &[u8], at: usize, r: &mut [u64; 2]) -> u8
     ensures { ReaderLeaves value_next (byte s.now at) result r.old r.new }
 {
     let c = Cursor { at };
@@ -40,8 +39,7 @@ pub extern "C" fn haspeljo_read_byte(s: &[u8], at: usize, r: &mut [u64; 2]) -> u
 }
 
 // r is the value and the next place.
-#[unsafe(no_mangle)]
-pub extern "C" fn haspeljo_read_vlq(s: &[u8], at: usize, r: &mut [u64; 2]) -> u8
+pub fn haspeljo_read_vlq(s: &[u8], at: usize, r: &mut [u64; 2]) -> u8
     ensures { ReaderLeaves value_next (vlq s.now at) result r.old r.new }
 {
     let c = Cursor { at };
@@ -55,8 +53,7 @@ pub extern "C" fn haspeljo_read_vlq(s: &[u8], at: usize, r: &mut [u64; 2]) -> u8
 }
 
 // r is the length and the next place.
-#[unsafe(no_mangle)]
-pub extern "C" fn haspeljo_read_vlq_length(s: &[u8], at: usize, r: &mut [u64; 2]) -> u8
+pub fn haspeljo_read_vlq_length(s: &[u8], at: usize, r: &mut [u64; 2]) -> u8
     ensures { ReaderLeaves value_next (vlq_length s.now at) result r.old r.new }
 {
     let c = Cursor { at };
@@ -70,8 +67,7 @@ pub extern "C" fn haspeljo_read_vlq_length(s: &[u8], at: usize, r: &mut [u64; 2]
 }
 
 // r is the string's place, its length and the next place.
-#[unsafe(no_mangle)]
-pub extern "C" fn haspeljo_read_short_string(s: &[u8], at: usize, r: &mut [u64; 3]) -> u8
+pub fn haspeljo_read_short_string(s: &[u8], at: usize, r: &mut [u64; 3]) -> u8
     ensures { ReaderLeaves part_next (map_answer part_of (short_string s.now at)) result r.old r.new }
 {
     let c = Cursor { at };
@@ -85,8 +81,7 @@ pub extern "C" fn haspeljo_read_short_string(s: &[u8], at: usize, r: &mut [u64; 
 }
 
 // count bytes: r is their place, their number and the next place.
-#[unsafe(no_mangle)]
-pub extern "C" fn haspeljo_read_part(s: &[u8], at: usize, count: usize, r: &mut [u64; 3]) -> u8
+pub fn haspeljo_read_part(s: &[u8], at: usize, count: usize, r: &mut [u64; 3]) -> u8
     ensures { ReaderLeaves part_next (map_answer part_of (part count s.now at)) result r.old r.new }
 {
     let c = Cursor { at };
@@ -99,45 +94,39 @@ pub extern "C" fn haspeljo_read_part(s: &[u8], at: usize, count: usize, r: &mut 
     }
 }
 
-#[unsafe(no_mangle)]
-pub extern "C" fn haspeljo_zigzag_encode(value: i32) -> u32
+pub fn haspeljo_zigzag_encode(value: i32) -> u32
     ensures { result ≡ zigzag_encode value }
 {
     vlq_zigzag::zigzag_encode(value)
 }
 
-#[unsafe(no_mangle)]
-pub extern "C" fn haspeljo_zigzag_decode(value: u32) -> i32
+pub fn haspeljo_zigzag_decode(value: u32) -> i32
     ensures { result ≡ zigzag_decode value }
 {
     vlq_zigzag::zigzag_decode(value)
 }
 
-#[unsafe(no_mangle)]
-pub extern "C" fn haspeljo_zigzag_encode_i64(value: i64) -> u64
+pub fn haspeljo_zigzag_encode_i64(value: i64) -> u64
     ensures { result ≡ zigzag_encode value }
 {
     vlq_zigzag::zigzag_encode_i64(value)
 }
 
-#[unsafe(no_mangle)]
-pub extern "C" fn haspeljo_zigzag_decode_i64(value: u64) -> i64
+pub fn haspeljo_zigzag_decode_i64(value: u64) -> i64
     ensures { result ≡ zigzag_decode value }
 {
     vlq_zigzag::zigzag_decode_i64(value)
 }
 
 // 1 if all of s is UTF-8, otherwise 0.
-#[unsafe(no_mangle)]
-pub extern "C" fn haspeljo_is_utf8(s: &[u8]) -> u8
+pub fn haspeljo_is_utf8(s: &[u8]) -> u8
     ensures { result ≡ bit (utf8 s.now) }
 {
     if vlq_utf8::is_utf8(s) { 1 } else { 0 }
 }
 
 // 1 if the address is bogus on mainnet, or on testnet where mainnet is 0; otherwise 0.
-#[unsafe(no_mangle)]
-pub extern "C" fn haspeljo_is_bogus_v4(address: u32, port: u16, mainnet: u8) -> u8
+pub fn haspeljo_is_bogus_v4(address: u32, port: u16, mainnet: u8) -> u8
     ensures { result ≡ bit (bogus (V4 address port) (network_of mainnet)) }
 {
     let network = network_of(mainnet);
@@ -148,8 +137,7 @@ pub extern "C" fn haspeljo_is_bogus_v4(address: u32, port: u16, mainnet: u8) -> 
     }
 }
 
-#[unsafe(no_mangle)]
-pub extern "C" fn haspeljo_is_bogus_v6(high: u64, low: u64, port: u16, mainnet: u8) -> u8
+pub fn haspeljo_is_bogus_v6(high: u64, low: u64, port: u16, mainnet: u8) -> u8
     ensures { result ≡ bit (bogus (V6 high low port) (network_of mainnet)) }
 {
     let network = network_of(mainnet);
@@ -160,16 +148,14 @@ pub extern "C" fn haspeljo_is_bogus_v6(high: u64, low: u64, port: u16, mainnet: 
     }
 }
 
-#[unsafe(no_mangle)]
-pub extern "C" fn haspeljo_blake2b256(s: &[u8], r: &mut [u8; 32])
+pub fn haspeljo_blake2b256(s: &[u8], r: &mut [u8; 32])
     ensures { r.new ≡ blake2b256 s.now }
 {
     *r = blake2b_hash::digest(s);
 }
 
 // The first four bytes of the digest.
-#[unsafe(no_mangle)]
-pub extern "C" fn haspeljo_frame_check(s: &[u8], r: &mut [u8; 4])
+pub fn haspeljo_frame_check(s: &[u8], r: &mut [u8; 4])
     ensures { r.new ≡ check s.now }
 {
     *r = blake2b_hash::check(s);

@@ -19,14 +19,7 @@ use walk_by_index::{StreamEntryRead, StreamIdRead, StreamPayloadRead};
 // 2, the start and the end of the message, its code, the place and length of its body in the session, and of what the body holds the type byte, the
 // count, the bogus count and the place of the first in the body, as haspeljo_from_frame has them, and a zero;
 // 3, the start of the item where the walk stops, the layer (1 handshake, 2 frame, 3 body), the number, and seven zeros.
-#[unsafe(no_mangle)]
-pub extern "C" fn haspeljo_step(
-    s: &[u8],
-    at: usize,
-    mainnet: u8,
-    cap: usize,
-    r: &mut [u64; 11],
-) -> u8
+pub fn haspeljo_step(s: &[u8], at: usize, mainnet: u8, cap: usize, r: &mut [u64; 11]) -> u8
     ensures { StepLeaves (step_of (network_of mainnet) s.now (session_step (network_of mainnet) cap s.now at)) result
         r.old r.new }
 {
@@ -36,8 +29,7 @@ pub extern "C" fn haspeljo_step(
 
 // An entry of a Peers message of the session, by index, where start and len say where the message's body stands. r is as for
 // haspeljo_parse_peer_entry, with the places in the session.
-#[unsafe(no_mangle)]
-pub extern "C" fn haspeljo_entry_in_stream(
+pub fn haspeljo_entry_in_stream(
     s: &[u8],
     start: usize,
     len: usize,
@@ -59,8 +51,7 @@ pub extern "C" fn haspeljo_entry_in_stream(
 }
 
 // An id of a ModifierRequest or Inv message of the session, by index: r is its place in the session.
-#[unsafe(no_mangle)]
-pub extern "C" fn haspeljo_id_in_stream(
+pub fn haspeljo_id_in_stream(
     s: &[u8],
     start: usize,
     len: usize,
@@ -81,8 +72,7 @@ pub extern "C" fn haspeljo_id_in_stream(
 }
 
 // A payload of a ModifierResponse message of the session, by index. r is as for haspeljo_payload_by_index, with the places in the session.
-#[unsafe(no_mangle)]
-pub extern "C" fn haspeljo_payload_in_stream(
+pub fn haspeljo_payload_in_stream(
     s: &[u8],
     start: usize,
     len: usize,

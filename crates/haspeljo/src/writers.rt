@@ -12,8 +12,7 @@ use export_config::ConfigRead;
 use wire::Written;
 
 // A VLQ, the shortest.
-#[unsafe(no_mangle)]
-pub extern "C" fn haspeljo_write_vlq(out: &mut [u8], at: usize, value: u64, r: &mut [u64; 1]) -> u8
+pub fn haspeljo_write_vlq(out: &mut [u8], at: usize, value: u64, r: &mut [u64; 1]) -> u8
     ensures { WriterLeaves (vlq_writer value) at result
         r.old r.new out.old out.new }
 {
@@ -22,13 +21,7 @@ pub extern "C" fn haspeljo_write_vlq(out: &mut [u8], at: usize, value: u64, r: &
 }
 
 // A length byte, and the bytes of s.
-#[unsafe(no_mangle)]
-pub extern "C" fn haspeljo_write_short_string(
-    out: &mut [u8],
-    at: usize,
-    s: &[u8],
-    r: &mut [u64; 1],
-) -> u8
+pub fn haspeljo_write_short_string(out: &mut [u8], at: usize, s: &[u8], r: &mut [u64; 1]) -> u8
     ensures { WriterLeaves (short_string_writer s.now) at result
         r.old r.new out.old out.new }
 {
@@ -37,8 +30,7 @@ pub extern "C" fn haspeljo_write_short_string(
 }
 
 // The bytes of s.
-#[unsafe(no_mangle)]
-pub extern "C" fn haspeljo_write_part(out: &mut [u8], at: usize, s: &[u8], r: &mut [u64; 1]) -> u8
+pub fn haspeljo_write_part(out: &mut [u8], at: usize, s: &[u8], r: &mut [u64; 1]) -> u8
     ensures { WriterLeaves (part_writer s.now) at result
         r.old r.new out.old out.new }
 {
@@ -47,8 +39,7 @@ pub extern "C" fn haspeljo_write_part(out: &mut [u8], at: usize, s: &[u8], r: &m
 }
 
 // The entry in row index of a table.
-#[unsafe(no_mangle)]
-pub extern "C" fn haspeljo_write_entry(
+pub fn haspeljo_write_entry(
     out: &mut [u8],
     at: usize,
     index: usize,
@@ -65,8 +56,7 @@ pub extern "C" fn haspeljo_write_entry(
 }
 
 // A handshake: a timestamp with the entry in row index of a table.
-#[unsafe(no_mangle)]
-pub extern "C" fn haspeljo_write_handshake(
+pub fn haspeljo_write_handshake(
     out: &mut [u8],
     at: usize,
     timestamp: u64,
@@ -84,8 +74,7 @@ pub extern "C" fn haspeljo_write_handshake(
 }
 
 // A frame of any code.
-#[unsafe(no_mangle)]
-pub extern "C" fn haspeljo_encode(
+pub fn haspeljo_encode(
     out: &mut [u8],
     at: usize,
     mainnet: u8,
@@ -101,13 +90,7 @@ pub extern "C" fn haspeljo_encode(
 }
 
 // GetPeers, as its whole frame.
-#[unsafe(no_mangle)]
-pub extern "C" fn haspeljo_write_get_peers(
-    out: &mut [u8],
-    at: usize,
-    mainnet: u8,
-    r: &mut [u64; 1],
-) -> u8
+pub fn haspeljo_write_get_peers(out: &mut [u8], at: usize, mainnet: u8, r: &mut [u64; 1]) -> u8
     ensures { WriterLeaves (message_writer (network_of mainnet) 0 write_get_peers) at result
         r.old r.new out.old out.new }
 {
@@ -116,8 +99,7 @@ pub extern "C" fn haspeljo_write_get_peers(
 }
 
 // Peers from all rows of a table.
-#[unsafe(no_mangle)]
-pub extern "C" fn haspeljo_write_peers(
+pub fn haspeljo_write_peers(
     out: &mut [u8],
     at: usize,
     mainnet: u8,
@@ -143,8 +125,7 @@ pub extern "C" fn haspeljo_write_peers(
 }
 
 // ModifierRequest: a type byte and the ids at places of the buffer.
-#[unsafe(no_mangle)]
-pub extern "C" fn haspeljo_write_modifier_request(
+pub fn haspeljo_write_modifier_request(
     out: &mut [u8],
     at: usize,
     mainnet: u8,
@@ -168,8 +149,7 @@ pub extern "C" fn haspeljo_write_modifier_request(
 }
 
 // ModifierResponse: a type byte and the payloads of a table.
-#[unsafe(no_mangle)]
-pub extern "C" fn haspeljo_write_modifier_response(
+pub fn haspeljo_write_modifier_response(
     out: &mut [u8],
     at: usize,
     mainnet: u8,
@@ -193,8 +173,7 @@ pub extern "C" fn haspeljo_write_modifier_response(
 }
 
 // Inv: a type byte and the ids at places of the buffer.
-#[unsafe(no_mangle)]
-pub extern "C" fn haspeljo_write_inv(
+pub fn haspeljo_write_inv(
     out: &mut [u8],
     at: usize,
     mainnet: u8,
@@ -218,8 +197,7 @@ pub extern "C" fn haspeljo_write_inv(
 }
 
 // SyncInfo, whose body is written as it is.
-#[unsafe(no_mangle)]
-pub extern "C" fn haspeljo_write_sync_info(
+pub fn haspeljo_write_sync_info(
     out: &mut [u8],
     at: usize,
     mainnet: u8,
@@ -234,8 +212,7 @@ pub extern "C" fn haspeljo_write_sync_info(
 }
 
 // A message of another code, whose body is written as it is.
-#[unsafe(no_mangle)]
-pub extern "C" fn haspeljo_write_unknown(
+pub fn haspeljo_write_unknown(
     out: &mut [u8],
     at: usize,
     mainnet: u8,
@@ -252,8 +229,7 @@ pub extern "C" fn haspeljo_write_unknown(
 
 // A handshake with the features Mode and Session. light is 0 for a full node, verifying 0 for one that does not verify. The address is as
 // haspeljo_parse gives it; 16 where the kind is not 0, 4 or 6, or an IPv4 address has a number above 32 bits or a low half.
-#[unsafe(no_mangle)]
-pub extern "C" fn haspeljo_build(
+pub fn haspeljo_build(
     out: &mut [u8],
     at: usize,
     mainnet: u8,
