@@ -1,7 +1,8 @@
 #!/usr/bin/env python3
 """Brings the repository's own definitions and lemmas to the spelling of the kit, after its port.py has run once.
 
-usage: python3 tools/port_names.py            at the top of the repository: rewrites the files below crates/
+usage: python3 tools/port_names.py --before   before port.py, which takes a file with a name of today's library for one of today's
+       python3 tools/port_names.py            after it, at the top of the repository: rewrites the files below crates/
        python3 tools/port_names.py --list     prints the old and the new name of each, and writes nothing
 
 Definitions, fields, constructors and lemmas are in snake case. A dash in a lemma's name stays where it joins two names, of definitions,
@@ -152,7 +153,28 @@ def turned(text, new, scope, fields=True):
     return "\n".join(out)
 
 
+def before():
+    """An alias of a module that is spelled as a name of today's library."""
+    path = "crates/walk_read/proofs/ContractsLaws.antt"
+    text = open(path, encoding="utf-8").read()
+    text = text.replace(".read_entry.Reads as read_entry\n", ".read_entry.Reads as entry-reads\n")
+    text = text.replace("\u2192 read_entry.Post", "\u2192 entry-reads.Post")
+    open(path, "w", encoding="utf-8").write(text)
+
+
+def everywhere(text, new):
+    """Names in camel case wherever they still stand, as fields of a record that is written out, parameters and words of comments; in comments those in backticks too."""
+    camel = {n for n in new if "-" not in n and re.search(r"[a-z][A-Z]", n)}
+    text = re.sub(r"(?<![\w'-])([a-z]\w*)(?![\w'-])", lambda m: new[m[1]] if m[1] in camel else m[1], text)
+    return "\n".join(
+        re.sub(r"`([^`\s]+)`", lambda m: "`" + new.get(m[1], m[1]) + "`", line) if re.match(r"\s*(--|//)", line) else line for line in text.split("\n")
+    )
+
+
 def main():
+    if "--before" in sys.argv:
+        before()
+        return
     new = new_names()
     if "--list" in sys.argv:
         for a in sorted(new):
@@ -172,7 +194,7 @@ def main():
             s = new[clash]
             if not path.endswith(".edit") and re.search(rf"(?<![\w.'-]){re.escape(s)}(?![\w'-])", text) and s not in new:
                 print("look:", path, clash, s)
-        turn = turned(text, new, scope, fields=not by_hand(path) and not path.endswith(".rt") or path.endswith(".rt"))
+        turn = everywhere(turned(text, new, scope, fields=not by_hand(path)), new)
         if turn != text:
             open(path, "w", encoding="utf-8").write(turn)
 

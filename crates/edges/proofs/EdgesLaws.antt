@@ -1,23 +1,18 @@
 -- The one lemma that covers the table of the cases marked *. Assumes nothing.
-use Rattle.std.specs.Prelude.{ℕ, ◌-◌, ◌^◌, Bool, true, false, List, [], ◌∷◌, ◌≡◌, refl, ℤ, pos, neg_ℤ}
+use Rattle.std.specs.Prelude.{◌-◌, refl}
 use Rattle.wire.specs.Bytes.{big_endian_from, big_endian}
-use Rattle.wire.specs.Reader.{Answer, got, refused, map_answer, Segment, fold, list_of}
+use Rattle.wire.specs.Reader.{map_answer, fold, list_of}
 use Rattle.vlq_utf8.specs.Utf8.{lead_rows, lead_in, lead_of, utf8_from, utf8}
 use Rattle.vlq.specs.Vlq.{groups, vlq, vlq_length, vlq_in, vlq_bytes}
 use Rattle.vlq.specs.ShortString.{string, short_string}
 use Rattle.vlq_zigzag.specs.Zigzag.{zigzag_encode, zigzag_decode}
-use Rattle.types.specs.declared.Network.{Network}
-use Rattle.types.specs.declared.Network.TheVariants.{Mainnet, Testnet}
-use Rattle.types.specs.declared.ProxyMode.TheVariants.{Full}
-use Rattle.types.specs.declared.Address.{Address}
-use Rattle.types.specs.declared.Address.TheVariants.{None, V4}
 use Rattle.types.specs.Order.{then_by, below}
-use Rattle.address_sanity.specs.Ranges.{ipv4, always_v4, mainnet_v4}
+use Rattle.address_sanity.specs.Ranges.{always_v4, mainnet_v4}
 use Rattle.address_sanity.specs.Bogus.{contains, some_contains, bogus}
 use Rattle.handshake.specs.Entry.{version, address_of, address, address_if, entry}
 use Rattle.handshake.specs.Verdict.{first_feature, other_magic, validate_peer}
-use Rattle.handshake.specs.Writes.{Config, nipopow, mode_feature}
-use Rattle.messages.specs.Message.{Message, inv, count, inventory_header, ids, message}
+use Rattle.handshake.specs.Writes.{nipopow, mode_feature}
+use Rattle.messages.specs.Message.{count, inventory_header, ids, message}
 use Rattle.edges.specs.Edges.{EachAgrees, cases}
 
 pub all-cases : EachAgrees cases

@@ -1,3 +1,2 @@
 // The cases of document 01 at the edges.
 #![tactic(auto)]
-

@@ -1,7 +1,6 @@
 // Frames: their definition and laws, in specs/.
 #![tactic(auto)]
 
-
 // Magic (4), code (1) and body length (4).
 pub const MIN_HEADER_SIZE: usize = 9;
 

@@ -1,4 +1,5 @@
--- Laws of a frame written around its body: where the body stands already, storing the frame changes only what is before it.
+-- Laws of a frame written around its body: where the body stands already, storing the frame changes only what is before
+-- it.
 use Prim.Native.Nat.{ℕ, zero, suc, ◌+◌, ◌≤◌, ◌<◌}
 use Rattle.std.proofs.Common.{arith, sym, ◌∙◌}
 use mathlib.Core.List.{List, [], ◌∷◌, ◌++◌, append_assoc, append-nil}

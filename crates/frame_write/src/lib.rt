@@ -1,5 +1,6 @@
-// Frames, written into a lent output from a place (transport/frame.rs). The body is written where it stands in the frame and hashed
-// there; the bytes before it follow. Each writer asks its questions first and stores only once all are answered "yes".
+// Frames, written into a lent output from a place (transport/frame.rs). The body is written where it stands in the
+// frame and hashed there; the bytes before it follow. Each writer asks its questions first and stores only once all are
+// answered "yes".
 #![tactic(auto)]
 
 ghost use Rattle.std.specs.Prelude.{◌≡◌, ◌+◌, ◌≤◌, length, take, drop};

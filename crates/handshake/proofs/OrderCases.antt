@@ -2,7 +2,7 @@
 -- computed from the definitions: two neighbouring questions answered "no" at once, an earlier question at a later value,
 -- and both sides of each limit. Features as long as the limit are given by their length alone, since counting them would
 -- take the prover too long. The order as a whole stands in `WriterOrder` (messages).
-use Rattle.std.specs.Prelude.{ℕ, ◌-◌, ◌*◌, true, ◌≡◌, refl, pos, length, replicate}
+use Rattle.std.specs.Prelude.{ℕ, ◌-◌, ◌*◌, true, false, ◌≡◌, refl, pos, length, replicate}
 use mathlib.Core.List.{List, [], ◌∷◌, ◌++◌, map, flat_map}
 use Rattle.std.proofs.Common.{length-take}
 use Rattle.wire.specs.Bytes.{big_endian_from, big_endian, big_endian_bytes, every}
@@ -176,6 +176,11 @@ unfolding cases said_of entry_written handshake_written built_written built writ
     entries_asked short_strings utf8_strings few_features lengths_within entry_from_row feature_from_row address_of big_endian big_endian_from big_endian_bytes utf8 utf8_from lead_of lead_in Utf8.lead_rows
     entry_bytes handshake_bytes version_bytes address_bytes feature_bytes flat_map vlq_bytes vlq_in mode_feature session_feature nipopow zigzag_encode
 all-cases = refl
+
+-- of eleven rows of zeros the last is inside, and there is no next
+pub past_the_rows : (row_inside (tables (replicate 132 0) [] []) 10 ≡ true) × (row_inside (tables (replicate 132 0) [] []) 11 ≡ false)
+unfolding row_inside entry_inside inside every rows
+past_the_rows = (refl, refl)
 
 -- ---- features as long as the limit, and one byte longer
 

@@ -16,7 +16,7 @@ use Rattle.vlq.specs.Vlq.{limit}
 use Rattle.vlq.proofs.VlqLaws.{reads-vlq, reads-vlq_length}
 use Rattle.vlq.proofs.ShortStringLaws.{reads-short_string}
 use Rattle.types.specs.declared.Version.{Version}
-use Rattle.handshake.specs.Entry.{version, address, EntryFeature, feature, Entry, entry, handshake}
+use Rattle.handshake.specs.Entry.{version, EntryFeature, feature, Entry, entry, handshake}
 use Rattle.handshake.proofs.AddressLaws.{reads-flagged}
 use Rattle.handshake.specs.Value.{AddressTyped, FeatureValue, EntryValue, HandshakeValue, feature_value, entry_value, handshake_value, feature_bytes, version_bytes, entry_bytes, handshake_bytes, utf8_strings, lengths_within, entries_asked}
 

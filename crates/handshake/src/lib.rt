@@ -2,7 +2,6 @@
 // handshake_verdict, writers in handshake_entry_write, handshake_write and handshake_build.
 #![tactic(auto)]
 
-
 // Ids of features.
 pub const FEATURE_MODE: u8 = 16;
 

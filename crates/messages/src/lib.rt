@@ -2,7 +2,6 @@
 // in messages_opaque_write, messages_inventory_write, messages_response_write and messages_peers_write.
 #![tactic(auto)]
 
-
 // Codes of messages.
 pub const GET_PEERS: u8 = 1;
 

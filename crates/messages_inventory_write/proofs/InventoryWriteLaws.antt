@@ -1,4 +1,5 @@
--- Laws of the writers of ModifierRequest and Inv: what is said by sizes is what `message_written` says; and the lengths of their bodies.
+-- Laws of the writers of ModifierRequest and Inv: what is said by sizes is what `message_written` says; and the lengths
+-- of their bodies.
 use Rattle.std.specs.Prelude.{ℕ, zero, suc, ◌+◌, ◌*◌, ◌≤◌, true, ◌≡◌, refl, leb, length, get_or, set}
 use Rattle.std.proofs.Common.{arith, sym, ap, ◌∙◌, length-set, length-append, leb-true}
 use mathlib.Core.List.{List, [], ◌∷◌, ◌++◌, map, flat_map}

@@ -1,5 +1,5 @@
-// ModifierRequest and Inv, written as whole frames into a lent output from a place (protocol/messages.rs). Each writer asks its questions first and
-// stores only once all are answered "yes".
+// ModifierRequest and Inv, written as whole frames into a lent output from a place (protocol/messages.rs). Each writer
+// asks its questions first and stores only once all are answered "yes".
 #![tactic(auto)]
 
 ghost use Rattle.std.specs.Prelude.{true, ◌≡◌, ◌+◌, ◌*◌, ◌≤◌, length};

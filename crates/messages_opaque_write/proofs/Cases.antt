@@ -1,4 +1,5 @@
--- The order of a message writer's questions, computed: the place, the ids inside, the count, Unknown's code, room. One lemma covers the table.
+-- The order of a message writer's questions, computed: the place, the ids inside, the count, Unknown's code, room. One
+-- lemma covers the table.
 use Rattle.std.specs.Prelude.{ℕ, ◌≡◌, refl, replicate}
 use mathlib.Core.List.{List, [], ◌∷◌, flat_map}
 use Rattle.wire.specs.Bytes.{big_endian_bytes, every}

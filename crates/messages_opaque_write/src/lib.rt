@@ -1,5 +1,7 @@
-// Messages, written as whole frames into a lent output from a place (protocol/messages.rs): GetPeers, SyncInfo and those of other codes.
-// ModifierRequest and Inv stand in messages_inventory_write, ModifierResponse in messages_response_write, Peers in messages_peers_write.
+// Messages, written as whole frames into a lent output from a place (protocol/messages.rs): GetPeers, SyncInfo and
+// those of other codes.
+// ModifierRequest and Inv stand in messages_inventory_write, ModifierResponse in messages_response_write, Peers in
+// messages_peers_write.
 #![tactic(auto)]
 
 ghost use Rattle.std.specs.Prelude.{◌≡◌};

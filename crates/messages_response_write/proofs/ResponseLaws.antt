@@ -1,4 +1,5 @@
--- Laws of the writer of ModifierResponse: what is said by sizes is what `message_written` says, and the lengths of rows and of the body.
+-- Laws of the writer of ModifierResponse: what is said by sizes is what `message_written` says, and the lengths of rows
+-- and of the body.
 use Rattle.std.specs.Prelude.{ℕ, ◌+◌, ◌/◌, ◌≤◌, true, ◌≡◌, leb}
 use native.Mathlib.Omega.{arith}
 use mathlib.Core.List.{List, [], ◌∷◌, ◌++◌, map, flat_map}

@@ -1,5 +1,5 @@
--- What the writer of ModifierResponse says of an output of len bytes, by sizes: the questions of `messageWritten` that are not answered "yes" by what
--- the message is.
+-- What the writer of ModifierResponse says of an output of len bytes, by sizes: the questions of `message_written` that
+-- are not answered "yes" by what the message is.
 -- Only for laws, proofs and private functions: no public contract and no theorem cites what follows.
 use Rattle.std.specs.Prelude.{ℕ, ◌+◌, ◌/◌, Bool, List, [], ◌∷◌, map, leb, length}
 use Rattle.wire.specs.Bytes.{every}

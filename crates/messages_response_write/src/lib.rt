@@ -21,7 +21,8 @@ use messages::{ID_SIZE, MAX_INV_OBJECTS, MODIFIER_RESPONSE, PAYLOAD_ROW_SIZE, Pa
 use types::Network;
 use wire::{MAX_BODY_SIZE, Written};
 
-// A type byte and the payloads whose rows are given: the place of an id, and the place and length of its bytes in the buffer.
+// A type byte and the payloads whose rows are given: the place of an id, and the place and length of its bytes in the
+// buffer.
 pub fn write_modifier_response(
     out: &mut [u8],
     at: usize,

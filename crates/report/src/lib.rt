@@ -6,9 +6,9 @@ ghost use Rattle.wire.specs.Output.{put};
 ghost use Rattle.io.specs.Counts.{IsPrefixLen};
 ghost use Rattle.report.specs.Report.{block_at, block_next, report_text, session_text, input_text};
 
-use libc::STDOUT_FILENO;
 use report_input_read::Input;
 use report_lines::Next;
+use std::io::Read;
 use types::{Network, StreamPlace};
 
 // The longest input of the program `session` that it reports on.
@@ -17,11 +17,15 @@ const MAX_INPUT: usize = 65536;
 // The Peers cap of the program `session`.
 const CAP: usize = 64;
 
-// All that the program `session` does: it reads its input, of which one byte more than the longest is enough to tell, and prints what is to be printed.
-pub fn print_input(fd: i32) {
-    let mut input = [0u8; MAX_INPUT + 1];
-    let read = report_input_read::read_input(fd, &mut input);
-    print_read(read, &input);
+// The descriptor of standard output.
+const STDOUT: i32 = 1;
+
+// All that the program `session` does: it reads its input, of which one byte more than the longest is enough to tell,
+// and prints what is to be printed.
+pub fn print_input<R: Read>(input: &mut R) {
+    let mut buf = [0u8; MAX_INPUT + 1];
+    let read = report_input_read::read_input(input, &mut buf);
+    print_read(read, &buf);
 }
 
 // Prints `unread` where a read failed, otherwise what is printed of the bytes that were read, and gives how many bytes that is. Of more bytes than the
@@ -32,7 +36,7 @@ pub fn print_read(read: Input, buf: &[u8]) -> u64
     match read {
         Input::Bytes(n) => print_session(&buf[..report_input_read::least(n, buf.len())]),
         Input::Failed => {
-            io::write_all(STDOUT_FILENO, b"unread\n");
+            io::write_all(STDOUT, b"unread\n");
             7
         }
     }
@@ -43,7 +47,7 @@ pub fn print_session(s: &[u8]) -> u64
     ensures { result ≡ length (session_text s.now) % 2 ^ 64 }
 {
     if MAX_INPUT < s.len() {
-        io::write_all(STDOUT_FILENO, b"long\n");
+        io::write_all(STDOUT, b"long\n");
         return 5;
     }
     print_report(s, Network::Mainnet, CAP)
@@ -59,7 +63,7 @@ fn print_report(s: &[u8], network: Network, cap: usize) -> u64
     while more {
         let mut block = [0u8; 65536];
         let next = put_lines(&mut block, s, network, cap, StreamPlace(at));
-        io::write_all(STDOUT_FILENO, &block[..next.len]);
+        io::write_all(STDOUT, &block[..next.len]);
         at = next.at.0;
         more = next.more;
         printed = std::num::wrapping_add_u64(printed, next.len as u64);

@@ -2,8 +2,6 @@
 // Of more than 65,536 bytes it prints only `long`; where the input could not be read, only `unread`.
 #![tactic(auto)]
 
-use libc::STDIN_FILENO;
-
-fn main() {
-    report::print_input(STDIN_FILENO);
+fn main(rt: HostRuntime) {
+    report::print_input(&mut rt.stdin());
 }

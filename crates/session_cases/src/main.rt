@@ -4,18 +4,28 @@
 
 ghost use Rattle.std.specs.Prelude.{◌≤◌, ◌<◌, length};
 
-use libc::STDIN_FILENO;
 use report_input_read::Input;
+use std::io::{Error, Read, Result};
 
-// No file has this descriptor, so that a read of it fails.
-const NO_FILE: i32 = -1;
+// The descriptor of standard input.
+const STDIN: i32 = 0;
+
+// An input of which no byte can be read.
+#[derive(Drop)]
+struct Unreadable;
+
+impl Read for Unreadable {
+    fn read(&mut self, _buf: &mut [u8]) -> Result<usize> {
+        Err(Error::other("unreadable"))
+    }
+}
 
 fn main() {
     let mut sessions = [0u8; 262144];
-    let n = io::read_full(STDIN_FILENO, &mut sessions);
+    let n = io::read_full(STDIN, &mut sessions);
     print_reports(&sessions[..n]);
     report::print_read(Input::Failed, &sessions);
-    report::print_input(NO_FILE);
+    report::print_input(&mut Unreadable);
 }
 
 // The reports of all sessions; at one that is not there whole it ends.

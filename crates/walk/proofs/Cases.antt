@@ -1,6 +1,6 @@
 -- Document 01, "At the edges" and "The session walk": the session of 20 bytes and its cut at every byte, both magics, steps at and past the length,
 -- which numbers are cuts, the verdicts, and the session written. Each group is a table, and one lemma covers it.
-use Rattle.std.specs.Prelude.{ℕ, Bool, cond, ◌≡◌, refl, take, replicate}
+use Rattle.std.specs.Prelude.{ℕ, ◌≡◌, refl, take, replicate}
 use Rattle.std.proofs.Common.{arith}
 use mathlib.Core.List.{List, [], ◌∷◌, ◌++◌, map, flat_map}
 use Rattle.wire.specs.Bytes.{big_endian, big_endian_from, big_endian_bytes, same_bytes, every}

@@ -25,9 +25,9 @@ use Rattle.messages.specs.Places.{IdPlaced, PayloadPlaced, MessagePlaced}
 use Rattle.messages.specs.Value.{MessageValue}
 use Rattle.messages.specs.Writes.{MessageWrite, value_of}
 use Rattle.walk.specs.Walk as Walk
-use Rattle.walk.specs.Walk.{Layer, Item, Reading, is_cut}
+use Rattle.walk.specs.Walk.{Layer, Item, is_cut}
 use Rattle.walk.specs.Session.{Fields, handshake_fields, message_fields, Content}
-use Rattle.walk.specs.Places.{BodyPlaced, FieldsPlaced}
+use Rattle.walk.specs.Places.{FieldsPlaced}
 use Rattle.walk.specs.CutRule.{end_by, last_end, EndsAt, here, there}
 use Rattle.walk.specs.WrittenSession as Session
 use Rattle.walk.specs.WrittenSession.{Write, write_handshake, write_built, write_message, Value, session_handshake, session_message, write_value, write_bytes, session_bytes, is_handshake, OnlyMessages, HandshakeFirst, first, item_values}

@@ -4,6 +4,7 @@ pub mod CutRuleLaws
 pub mod DemandsProved
 pub mod GrowsLaws
 pub mod PlacesLaws
+pub mod ItemsLaws
 pub mod SessionLaws
 pub mod TheoremsProved
 pub mod ValueCases

@@ -1,7 +1,7 @@
 -- By which readers an item of a session was read, and that its bytes stand at its places.
-use Prim.Native.Nat.{ℕ, zero, suc, ◌+◌, ◌≤◌}
-use Rattle.std.proofs.Common.{arith, ap, ◌∙◌}
-use Rattle.std.specs.Prelude.{List, length, take, drop}
+use Prim.Native.Nat.{ℕ, zero, suc}
+use Rattle.std.proofs.Common.{arith}
+use Rattle.std.specs.Prelude.{List}
 use Rattle.std.proofs.Math.Path.{◌≡◌, refl, sym}
 use Rattle.wire.specs.Bytes.{Each, none, more}
 use Rattle.wire.specs.Reader.{Answer, got, refused}
@@ -15,8 +15,7 @@ use Rattle.messages.specs.Message.{Message, message}
 use Rattle.messages.proofs.PlacesLaws.{message-placed}
 use Rattle.walk.specs.Walk.{Opened, opened, Item, walk, reading}
 use Rattle.walk.proofs.WalkLaws.{open_at, ReaderLaws, Walks, over, stops, goes, walks, walk-over, walk-stops, walk-goes}
-use Rattle.walk.specs.Session.{Fields, handshake_fields, message_fields, Content, handshake_item, message_item, frame_item, handshake_at, message_at, session_reading}
-use Rattle.walk.proofs.SessionLaws.{session_readers}
+use Rattle.walk.specs.Session.{Fields, handshake_fields, message_fields, Content, handshake_item, message_item, frame_item, handshake_at, message_at}
 use Rattle.walk.specs.Places.{FieldsPlaced}
 
 -- ---- each item of a walk was opened at its place
@@ -80,7 +79,7 @@ module _ (network : Network) (cap : ℕ) (s : List ℕ) where
       let p = frame-places network s at q in
       record { within = omega (arith, p.ends, p.within); bytes = sym p.stands }
 
-  fields_placed : {at : ℕ} {g : Fields} {end : ℕ} → FieldsRead at g end → FieldsPlaced s end g
+  pub fields_placed : {at : ℕ} {g : Fields} {end : ℕ} → FieldsRead at g end → FieldsPlaced s end g
   unfolding FieldsPlaced
   fields_placed (a_handshake {h = h} {e = e} q) = let r = handshake-entry s 0 q in (gives-entry.holds h.entry e r.1).1
   fields_placed {at} (a_message {f = f} q b) =
@@ -90,9 +89,3 @@ module _ (network : Network) (cap : ℕ) (s : List ℕ) where
         ends = sym (frame-places network s at q).ends;
         placed = message-placed cap f.code f.body.bytes 0 b;
       }
-
-  pub items-placed : Each (λ i. FieldsPlaced s i.end i.holds.fields) (session_reading network cap s).items
-  unfolding session_reading
-  items-placed =
-      reading-each (session_readers network cap) s (λ i. FieldsPlaced s i.end i.holds.fields)
-      (λ at end c q. fields_placed (fields_read at end c q))

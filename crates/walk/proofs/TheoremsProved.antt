@@ -11,7 +11,7 @@ use Rattle.walk.proofs.GrowsLaws.{items_then, grown}
 use Rattle.walk.proofs.WrittenLaws.{written-reads, written_once}
 use Rattle.walk.proofs.CallsLaws.{steps-from, calls-write-all, calls_typed}
 use Rattle.walk.proofs.SessionLaws.{session_readers, session_writers}
-use Rattle.walk.proofs.PlacesLaws.{items-placed}
+use Rattle.walk.proofs.ItemsLaws.{items-placed}
 
 module _ (network : Network) (cap : ℕ) where
   pub steps_are_reading : StepsAreReading network cap

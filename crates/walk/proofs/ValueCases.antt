@@ -8,7 +8,6 @@ use Rattle.vlq_utf8.specs.Utf8.{lead_rows, lead_in, lead_of, utf8_from, utf8}
 use Rattle.vlq.specs.Vlq.{groups, vlq, vlq_length, vlq_in, vlq_bytes}
 use Rattle.vlq.specs.ShortString.{string, short_string}
 use Rattle.vlq_zigzag.specs.Zigzag.{zigzag_encode}
-use Rattle.types.specs.declared.Address.{Address}
 use Rattle.types.specs.declared.Address.TheVariants.{V4, V6}
 use Rattle.types.specs.declared.Network.TheVariants.{Mainnet}
 use Rattle.types.specs.declared.ProxyMode.TheVariants.{Light}
@@ -16,7 +15,7 @@ use Rattle.types.specs.declared.Version.{Version}
 use Rattle.handshake.specs.Entry.{version, address_of, address, address_if, feature, entry, handshake}
 use Rattle.handshake.specs.Tables as Tables
 use Rattle.handshake.specs.Tables.{Tables, tables}
-use Rattle.handshake.specs.Value.{FeatureValue, EntryValue, feature_value, entry_value, handshake_value}
+use Rattle.handshake.specs.Value.{EntryValue, feature_value, entry_value, handshake_value}
 use Rattle.handshake.specs.Writes.{Config, nipopow, mode_feature, session_feature, built}
 use Rattle.messages.specs.Message.{count, inventory_header, ids, total, payload_after, payload, payloads, peers_body, whole_body, message}
 use Rattle.messages.specs.Value.{get_peers_value, peers_value, modifier_request_value, modifier_response_value, inv_value, sync_info_value, unknown_value, payload_value, message_value}

@@ -1,5 +1,5 @@
 -- What the verdict of Peers counts: of no entry nothing, of an entry alone one and whether its address is bogus, of a list what its parts count.
-use Rattle.std.specs.Prelude.{ℕ, ◌+◌, cond, List, [], ◌∷◌, ◌++◌, ◌≡◌, refl, length}
+use Rattle.std.specs.Prelude.{ℕ, ◌+◌, cond, List, [], ◌∷◌, ◌++◌, ◌≡◌, refl}
 use Rattle.std.proofs.Common.{length-append}
 use Rattle.types.specs.declared.Network.{Network}
 use Rattle.address_sanity.specs.Bogus.{bogus}

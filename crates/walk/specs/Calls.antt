@@ -1,5 +1,5 @@
 -- Sessions told by calls, one after the other. Of our writers on one output: what each call returned and left, and of what types its arguments were,
--- as the contract of every writer ensures. Of the step: its answers from a place on. `write_all` and `sessionReading` compute the same from the writes and
+-- as the contract of every writer ensures. Of the step: its answers from a place on. `write_all` and `session_reading` compute the same from the writes and
 -- the bytes alone (`Theorems`: `CallsAreWrites`, `StepsAreReading`).
 use Rattle.std.specs.Prelude.{ℕ, List, [], ◌∷◌, ◌≡◌}
 use Rattle.wire.specs.Output.{output_after}

@@ -1,3 +1,2 @@
 // The session walk.
 #![tactic(auto)]
-

@@ -1,6 +1,6 @@
 -- Laws of `InStream`: of a body in the stream, a place that is read there is as far after the body's start in the stream, so that the bytes of every entry,
 -- id and payload stand in the stream at the places that are given; of what is read by index, no place is refused.
-use Rattle.std.specs.Prelude.{ℕ, ◌+◌, ◌^◌, ◌≤◌, ◌<◌, Bool, List, ◌≡◌, refl, ltb, leb, get_or, take, drop}
+use Rattle.std.specs.Prelude.{ℕ, ◌+◌, ◌^◌, ◌≤◌, ◌<◌, Bool, List, ◌≡◌, ltb, leb, get_or, take, drop}
 use native.Mathlib.Omega.{arith}
 use Rattle.std.proofs.Math.Bool.{true, false, cond}
 use Rattle.std.proofs.Common.{sym, ap, ◌∙◌, length-take, length-drop, drop-drop}
@@ -28,7 +28,7 @@ use Rattle.messages.specs.Message.{total, payload_after, payload}
 use Rattle.messages.proofs.PlacesLaws.{gives-payload}
 use Rattle.messages_inventory_read.specs.Answers.{id_of}
 use Rattle.messages_response_read.specs.Answers.{payload_of}
-use Rattle.messages_inventory_read.specs.Parts.{Items, items, items_start, item_by_index, item_at, id_at}
+use Rattle.messages_inventory_read.specs.Parts.{items, items_start, item_by_index, item_at, id_at}
 use Rattle.messages_response_read.specs.Parts.{payload_at}
 use Rattle.messages_peers_read.specs.Parts.{entries, entries_start, entry_at}
 use Rattle.walk_by_index.specs.InStream.{is_inside, in_stream, stream_entry, stream_payload, entry_to_stream, id_to_stream, payload_to_stream, from_body, entry_in_stream, id_in_stream, payload_in_stream}

@@ -1,7 +1,7 @@
 -- The contract of each writer, as the code states it, says that a call of it is a write (walk/specs/Calls.antt): `Post` is the contract of a function,
 -- of the lifetimes κs, what it was given, what it returned and what it left. That a call's numbers are in the range of their types is part of these
 -- contracts where a reading rests on it, so that the theorems on written sessions (walk/specs/Theorems.antt) hold of every list of calls: calls that meet
--- these contracts, each from where the last one left the output, are such a list (`calls-go-on`, walk/specs/DemandsProved.antt).
+-- these contracts, each from where the last one left the output, are such a list (`calls_go-on`, walk/proofs/DemandsProved.antt).
 use Prim.Native.Nat.{ℕ}
 use mathlib.Core.Path.{◌≡◌}
 use contract.Lifetimes.{Lfts}

@@ -1,6 +1,6 @@
 -- What holds of all that a reader gives from a place, proved for the readers of `Reader` and for their composition: a format has it because its fields
 -- have it.
-use Rattle.std.specs.Prelude.{ℕ, ◌+◌, ◌≤◌, Bool, true, false, List, ◌∷◌, ◌≡◌, length, get_or, take, drop}
+use Rattle.std.specs.Prelude.{ℕ, ◌+◌, Bool, true, false, List, ◌≡◌, length, get_or}
 use Rattle.std.proofs.Common.{sym, ap, ◌∙◌}
 use Rattle.wire.specs.Bytes.{Each, none, more}
 use Rattle.wire.specs.Reader.{got, Reader, pure, and_then, guard, byte, Segment, part, list_of}

@@ -1,5 +1,4 @@
 -- `is_bogus_address` meets its contract: at each kind of address, the rows for every network and those for mainnet are asked.
-use borrow.Author.Rules.{rules}
 use Rattle.address_sanity.specs.Ranges.{always_v4, always_v6, mainnet_v4, mainnet_v6}
 use Rattle.address_sanity.specs.Bogus.{bogus}
 use Rattle.address_sanity.proofs.RowTests.{either}

@@ -1,6 +1,5 @@
 -- `export_replay::replay` is safe and ends: there are at most as many cases as bytes, and the measure is what is left of the bytes.
 use Prim.Native.Nat.{◌≤◌, ◌-◌}
-use native.Mathlib.Omega.{arith}
 use lib.ListN.{length}
 use Rattle.export_replay.proofs.replay.Given as goal
 

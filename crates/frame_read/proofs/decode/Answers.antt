@@ -7,8 +7,6 @@ use Rattle.wire.specs.Bytes.{same_bytes}
 use Rattle.wire_numbers.specs.PartLaws.{number-part}
 use Rattle.frame_read.specs.Answers.{body_answer}
 use Rattle.frame_read.proofs.AnswerLaws.{frame-outside, frame-short, frame-other, frame_long, frame-got, frame_refused}
-use borrow.Author.Rules.{rules}
-use borrow.Author.Tests.{not-true, not-false}
 use Rattle.frame_read.proofs.decode.Goals as goal
 
 pub returns-then-s-start : goal.returns-then-s-start

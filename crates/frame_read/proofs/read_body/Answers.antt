@@ -5,8 +5,6 @@ use native.Mathlib.Omega.{arith}
 use lib.ListN.{take, drop}
 use Rattle.wire.specs.Bytes.{same_bytes}
 use Rattle.frame_read.proofs.AnswerLaws.{body-empty, body_missing, body-got}
-use borrow.Author.Rules.{rules}
-use borrow.Author.Tests.{not-true, not-false}
 use Rattle.frame_read.proofs.read_body.Goals as goal
 
 pub returns-then-n-eq0 : goal.returns-then-n-eq0

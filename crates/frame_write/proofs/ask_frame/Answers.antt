@@ -9,16 +9,16 @@ use Rattle.frame_write.proofs.ask_frame.Goals as goal
 
 pub returns-then-len-at : goal.returns-then-len-at
 unfolding frame_written_for asked
-returns-then-len-at c = rw (lt-leb _ _ c.if-len-at.true)
+returns-then-len-at c = rw (lt-leb c.args.at c.args.len (omega arith))
 
 pub returns-then-n-gt-MAX_BODY_SIZE : goal.returns-then-n-gt-MAX_BODY_SIZE
 unfolding frame_written_for asked
-returns-then-n-gt-MAX_BODY_SIZE c = rw (le-leb _ _ c.if-len-at.false, lt-leb c.args.n limit (omega arith))
+returns-then-n-gt-MAX_BODY_SIZE c = rw (le-leb c.args.at c.args.len (omega arith), lt-leb c.args.n limit (omega arith))
 
 pub returns-then-len-at-2 : goal.returns-then-len-at-2
 unfolding frame_written_for asked
-returns-then-len-at-2 c = rw (le-leb _ _ c.if-len-at.false, le-leb c.args.n limit (omega arith), lt-leb (c.args.at + frame_length c.args.n) c.args.len (omega (arith, c.frame_len-size.ensures)))
+returns-then-len-at-2 c = rw (le-leb c.args.at c.args.len (omega arith), le-leb c.args.n limit (omega arith), lt-leb (c.args.at + frame_length c.args.n) c.args.len (omega (arith, c.frame_len-size.ensures)))
 
 pub returns : goal.returns
 unfolding frame_written_for asked
-returns c = rw (le-leb _ _ c.if-len-at.false, le-leb c.args.n limit (omega arith), le-leb (c.args.at + frame_length c.args.n) c.args.len (omega (arith, c.frame_len-size.ensures)), c.frame_len-size.ensures)
+returns c = rw (le-leb c.args.at c.args.len (omega arith), le-leb c.args.n limit (omega arith), le-leb (c.args.at + frame_length c.args.n) c.args.len (omega (arith, c.frame_len-size.ensures)), c.frame_len-size.ensures)

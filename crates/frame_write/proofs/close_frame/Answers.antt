@@ -1,4 +1,5 @@
--- `frame_write::close_frame` meets its contract: the questions were answered by sizes, and the frame was stored around its body once all held.
+-- `frame_write::close_frame` meets its contract: the questions were answered by sizes, and the frame was stored around
+-- its body once all held.
 use lib.ListN.{length}
 use Rattle.wire.proofs.StandingLaws.{after-to, after-refused}
 use Rattle.frame_write.specs.FrameWriteLaws.{asked-frame}

@@ -1,4 +1,5 @@
--- `frame_write::encode` meets its contract: the questions were answered by sizes, and the frame was stored once all held.
+-- `frame_write::encode` meets its contract: the questions were answered by sizes, and the frame was stored once all
+-- held.
 use mathlib.Core.Path.{◌∙◌}
 use lib.ListN.{length}
 use Rattle.wire.proofs.StandingLaws.{after-to, after-refused}

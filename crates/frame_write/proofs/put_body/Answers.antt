@@ -1,4 +1,5 @@
--- `frame_write::put_body` meets its contract: the body was stored where it stands in the frame, and then the frame around it.
+-- `frame_write::put_body` meets its contract: the body was stored where it stands in the frame, and then the frame
+-- around it.
 use Rattle.frame_write.specs.FrameWriteLaws.{wrote_body, wrote_around}
 use Rattle.frame_write.proofs.put_body.Goals as goal
 

@@ -1,4 +1,5 @@
--- `messages_inventory_write::put_ids` meets its contract: the body was stored where it stands in the frame, and the frame was closed around it.
+-- `messages_inventory_write::put_ids` meets its contract: the body was stored where it stands in the frame, and the
+-- frame was closed around it.
 use Prim.Native.Nat.{◌+◌, ◌-◌}
 use native.Mathlib.Omega.{arith}
 use mathlib.Core.Path.{◌≡◌}

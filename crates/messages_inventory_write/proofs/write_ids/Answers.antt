@@ -1,4 +1,5 @@
--- `messages_inventory_write::write_ids` meets its contract: the questions were answered by sizes, and the frame was stored once all held.
+-- `messages_inventory_write::write_ids` meets its contract: the questions were answered by sizes, and the frame was
+-- stored once all held.
 use lib.ListN.{length}
 use Rattle.wire.proofs.StandingLaws.{after-put, after-refused}
 use Rattle.messages_inventory_write.proofs.InventoryWriteLaws.{asked-ids}

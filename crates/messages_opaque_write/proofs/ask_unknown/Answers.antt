@@ -1,4 +1,5 @@
--- `messages_opaque_write::ask_unknown` meets its contract: each answer is the definition's, by the tests that led to it.
+-- `messages_opaque_write::ask_unknown` meets its contract: each answer is the definition's, by the tests that led to
+-- it.
 use native.Mathlib.Omega.{arith}
 use mathlib.Core.Path.{sym, ◌∙◌}
 use borrow.Author.Tests.{le-leb, lt-leb}

@@ -1,4 +1,5 @@
--- `messages_opaque_write::write_unknown` meets its contract: the questions were answered by sizes, and the frame was stored once all held.
+-- `messages_opaque_write::write_unknown` meets its contract: the questions were answered by sizes, and the frame was
+-- stored once all held.
 use mathlib.Core.Path.{◌∙◌}
 use Rattle.wire.proofs.StandingLaws.{after-refused}
 use Rattle.messages.specs.Value.{code_of, body_bytes}

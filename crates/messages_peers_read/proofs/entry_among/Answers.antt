@@ -5,7 +5,6 @@ use Rattle.wire.proofs.ReaderLaws.{map-got, map-refused, map-refusal}
 use Rattle.messages_inventory_read.specs.Parts.{item_by_index}
 use Rattle.messages_peers_read.specs.Parts.{entry_among}
 use Rattle.messages_peers_read.specs.Answers.{entries_ended, entries_end_answer}
-use borrow.Author.Rules.{rules}
 use Rattle.messages_peers_read.proofs.entry_among.Goals as goal
 
 pub returns-then-count-index : goal.returns-then-count-index

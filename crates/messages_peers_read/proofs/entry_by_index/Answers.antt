@@ -4,7 +4,6 @@ use Rattle.wire.proofs.ReaderLaws.{map-refusal}
 use Rattle.messages_peers_read.specs.Parts.{entries, entry_at}
 use Rattle.messages_peers_read.proofs.PartsLaws.{entry_among_lem}
 use Rattle.messages_inventory_read.specs.Answers.{count_answer}
-use borrow.Author.Rules.{rules}
 use Rattle.messages_peers_read.proofs.entry_by_index.Goals as goal
 
 pub returns-in-Value : goal.returns-in-Value

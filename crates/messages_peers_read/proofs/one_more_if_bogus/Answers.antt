@@ -1,7 +1,6 @@
 -- `messages_peers_read::one_more_if_bogus` meets its contract, by what `is_bogus_address` answered.
 use native.Mathlib.Omega.{arith}
 use mathlib.Core.Path.{sym, ◌∙◌}
-use borrow.Author.Rules.{rules}
 use Rattle.messages_peers_read.proofs.one_more_if_bogus.Goals as goal
 
 pub returns-then-is_bogus_address : goal.returns-then-is_bogus_address

@@ -6,7 +6,6 @@ use Rattle.messages_inventory_read.specs.Answers.{count_answer}
 use Rattle.messages_peers_read.specs.Parts.{entries}
 use Rattle.messages_peers_read.specs.Answers.{bogus_answer}
 use Rattle.messages_peers_read.proofs.AnswerLaws.{peers-got, peers-refused}
-use borrow.Author.Rules.{rules}
 use Rattle.messages_peers_read.proofs.parse_peers_body.Goals as goal
 
 pub returns-in-Value-count_bogus : goal.returns-in-Value-count_bogus

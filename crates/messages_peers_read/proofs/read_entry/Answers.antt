@@ -1,7 +1,6 @@
 -- `messages_peers_read::read_entry` meets its contract: it answers what `parse_peer_entry` answers.
 use mathlib.Core.Path.{sym, ap, ◌∙◌}
 use Rattle.handshake_read.specs.Answers.{entry_answer}
-use borrow.Author.Rules.{rules}
 use Rattle.messages_peers_read.proofs.read_entry.Goals as goal
 
 pub returns-in-Value : goal.returns-in-Value

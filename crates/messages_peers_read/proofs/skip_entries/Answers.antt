@@ -2,12 +2,11 @@
 use Prim.Native.Nat.{◌-◌}
 use mathlib.Core.Path.{refl, sym, ap, ◌∙◌}
 use native.Mathlib.Omega.{arith}
-use borrow.Author.Rules.{rules}
 use Rattle.wire.proofs.ReaderLaws.{map-got, map-refused}
 use Rattle.handshake.specs.Entry.{entry}
 use Rattle.handshake_read.specs.Answers.{peer_spec_of, entry_answer}
 use Rattle.messages_peers_read.specs.Answers.{entries_ended}
-use Rattle.wire.proofs.LoopLaws.{ListSoFar, list-start, list_again, list-refused, list-end}
+use Rattle.wire.proofs.LoopLaws.{list-start, list_again, list-refused, list-end}
 use Rattle.messages_peers_read.proofs.skip_entries.Goals as goal
 
 pub loop-i-init : goal.loop-i-init

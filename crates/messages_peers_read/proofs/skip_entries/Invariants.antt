@@ -1,13 +1,8 @@
 -- `messages_peers_read::skip_entries` meets its contract. The loop's invariant and what follows from it stand in `LoopLaws` of wire.
 use Prim.Native.Nat.{◌-◌}
-use mathlib.Core.Path.{refl, sym, ap, ◌∙◌}
-use native.Mathlib.Omega.{arith}
-use borrow.Author.Rules.{rules}
-use Rattle.wire.proofs.ReaderLaws.{map-got, map-refused}
 use Rattle.handshake.specs.Entry.{entry}
-use Rattle.handshake_read.specs.Answers.{peer_spec_of, entry_answer}
 use Rattle.messages_peers_read.specs.Answers.{entries_ended}
-use Rattle.wire.proofs.LoopLaws.{ListSoFar, list-start, list_again, list-refused, list-end}
+use Rattle.wire.proofs.LoopLaws.{ListSoFar}
 use Rattle.messages_peers_read.proofs.skip_entries.Given as goal
 
 abbrev pub invariant-loop-i : goal.invariant-loop-i

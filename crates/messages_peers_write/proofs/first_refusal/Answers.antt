@@ -1,5 +1,4 @@
 -- `messages_peers_write::first_refusal` meets its contract: each answer is the definition's, by the tests that led to it.
-use borrow.Author.Rules.{rules}
 use borrow.Author.Tests.{le-leb, lt-leb, eq-eqb, ne_eqb}
 use Rattle.messages_peers_write.specs.Asked.{peers_refusal}
 use Rattle.messages_peers_write.proofs.first_refusal.Goals as goal

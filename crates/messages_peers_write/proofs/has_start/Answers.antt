@@ -2,7 +2,6 @@
 use Prim.Native.Nat.{◌+◌}
 use native.Mathlib.Omega.{arith}
 use lib.ListN.{length}
-use borrow.Author.Rules.{rules}
 use borrow.Author.Tests.{le-leb, lt-leb}
 use Rattle.vlq.specs.Vlq.{vlq_bytes}
 use Rattle.vlq.proofs.VlqLaws.{vlq_ten}

@@ -3,7 +3,6 @@ use Prim.Native.Nat.{◌/◌}
 use native.Mathlib.Omega.{arith}
 use mathlib.Core.Path.{sym, ◌∙◌}
 use lib.ListN.{length}
-use borrow.Author.Rules.{rules}
 use Rattle.handshake.specs.Tables.{tables}
 use Rattle.handshake_entry_write.specs.NumbersLaws.{all_bytes_lem}
 use Rattle.messages.specs.Value.{code_of}

@@ -1,7 +1,6 @@
 -- `messages_peers_write::write_peers_frame` meets its contract: once the entries were accepted, the count was stored before them and the frame closed around both.
 use native.Mathlib.Omega.{arith}
 use mathlib.Core.Path.{sym, ◌∙◌}
-use borrow.Author.Rules.{rules}
 use Rattle.wire.proofs.StandingLaws.{after-refused}
 use Rattle.handshake.specs.Tables.{tables}
 use Rattle.messages_peers_write.specs.PeersLaws.{body_end, frame_stored}

@@ -8,7 +8,6 @@ use Rattle.messages_inventory_read.specs.Answers.{inventory_in, inventory_answer
 use Rattle.messages_peers_read.specs.Answers.{peers_answer}
 use Rattle.messages_read.specs.AnswersLaws.{peers-message}
 use Rattle.messages_read.proofs.AnswerLaws.{request-got, inv-got, ids-refused, response-got, response-refused}
-use borrow.Author.Rules.{rules}
 use Rattle.messages_read.proofs.from_frame.Goals as goal
 
 pub returns-in-1 : goal.returns-in-1

@@ -1,4 +1,5 @@
--- `messages_response_write::ask_response` meets its contract: each answer is the definition's, by the tests that led to it.
+-- `messages_response_write::ask_response` meets its contract: each answer is the definition's, by the tests that led to
+-- it.
 use Prim.Native.Nat.{◌/◌, ◌%◌}
 use native.Mathlib.Omega.{arith}
 use mathlib.Core.Path.{sym, ◌∙◌}

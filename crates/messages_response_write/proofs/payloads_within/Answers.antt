@@ -12,11 +12,11 @@ loop-k-init c = passed_start _ _ _
 
 pub returns-then-payload_at-gt-MAX_BODY_SIZE : goal.returns-then-payload_at-gt-MAX_BODY_SIZE
 unfolding row_within
-returns-then-payload_at-gt-MAX_BODY_SIZE c = passed-not c.loop-k.invariant (omega arith) (ap row_within (sym c.payload_at.ensures) ∙ lt-leb c.payload_at.result.len limit c.if-payload_at-gt-MAX_BODY_SIZE.true)
+returns-then-payload_at-gt-MAX_BODY_SIZE c = passed-not c.loop-k.invariant (omega arith) (ap row_within (sym c.payload_at.ensures) ∙ lt-leb c.payload_at.result.len limit (omega arith))
 
 pub loop-k-preserved : goal.loop-k-preserved
 unfolding row_within
-loop-k-preserved c = passed-next c.loop-k.invariant (omega arith) (ap row_within (sym c.payload_at.ensures) ∙ le-leb c.payload_at.result.len limit c.if-payload_at-gt-MAX_BODY_SIZE.false)
+loop-k-preserved c = passed-next c.loop-k.invariant (omega arith) (ap row_within (sym c.payload_at.ensures) ∙ le-leb c.payload_at.result.len limit (omega arith))
 
 pub returns : goal.returns
 returns c = passed-end c.loop-k.invariant (omega arith)

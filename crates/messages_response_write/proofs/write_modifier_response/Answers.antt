@@ -1,5 +1,5 @@
--- `messages_response_write::write_modifier_response` meets its contract: the questions were answered by sizes, and the frame was stored once all
--- held.
+-- `messages_response_write::write_modifier_response` meets its contract: the questions were answered by sizes, and the
+-- frame was stored once all held.
 use mathlib.Core.Path.{◌∙◌}
 use lib.ListN.{length}
 use Rattle.messages.specs.Value.{code_of}

@@ -1,5 +1,5 @@
 -- `report::print_read` meets its contract: `unread` and its line end are seven bytes, and otherwise the bytes are those of what was read.
-use Rattle.std.proofs.Common.{◌≡◌, ℕ, ◌%◌, ◌^◌, ◌<◌, ◌≤◌, min, List, length, take, sym, refl, ap, ◌∙◌, ⊎_elim, arith, length-take-le, take_all, rules}
+use Rattle.std.proofs.Common.{◌≡◌, ℕ, ◌%◌, ◌^◌, ◌<◌, ◌≤◌, min, List, length, take, sym, ap, ◌∙◌, ⊎_elim, arith, length-take-le, take_all}
 use Rattle.wire.specs.Numbers.{lt-or_ge}
 use Rattle.report_input_read.specs.declared.Input.{Input}
 use Rattle.report_input_read.specs.declared.Input.TheVariants.{Bytes, Failed}
@@ -26,7 +26,7 @@ pub slice_bounds-print_session-end : goal.slice_bounds-print_session-end
 slice_bounds-print_session-end c = sym (length-take-le _ _ (omega (arith, c.least.ensures)))
 
 pub returns-in-Bytes : goal.returns-in-Bytes
-returns-in-Bytes c = read-bytes _ _ _ _ _ c.read.given.1 c.least.ensures c.print_session.ensures
+returns-in-Bytes c = read-bytes _ _ _ _ _ c.in-Bytes.is c.least.ensures c.print_session.ensures
 
 pub returns-in-Failed : goal.returns-in-Failed
 returns-in-Failed c = not-read _ _ c.in-Failed.is

@@ -1,8 +1,6 @@
 -- `report::print_report` meets its contract: each turn prints a block, and the rest of the report is to come.
-use Rattle.std.proofs.Common.{ℕ, rules}
-use lib.ListN.{length-replicate}
 use Rattle.report.proofs.ReportLaws.{lines_from}
-use Rattle.report.proofs.BlockLaws.{Printed, print_start, print_turn, print_end}
+use Rattle.report.proofs.BlockLaws.{Printed}
 use Rattle.report.proofs.print_report.Given as goal
 
 abbrev pub invariant-loop-more : goal.invariant-loop-more

@@ -1,5 +1,5 @@
 -- `report::print_session` meets its contract: `long` and its line end are five bytes, and otherwise the bytes are those of the report.
-use Rattle.std.proofs.Common.{rules, le-ltb, lt-ltb}
+use Rattle.std.proofs.Common.{le-ltb, lt-ltb}
 use Rattle.report.specs.Report.{session_text}
 use Rattle.report.proofs.print_session.Goals as goal
 

@@ -1,7 +1,6 @@
 -- `report::put_lines` meets its contract: each turn stores the line of a step, and what is to come is the block in the room that is left.
-use Rattle.std.proofs.Common.{◌-◌, length, sym, refl, arith, length-take-le, rules, leb-false, leb-true}
-use Rattle.report.proofs.ReportLaws.{lines_from}
-use Rattle.report.proofs.BlockLaws.{line-room, Laying, laying_start, laying_turn, laying_last, laying_full}
+use Rattle.std.proofs.Common.{sym, refl, arith, length-take-le}
+use Rattle.report.proofs.BlockLaws.{line-room, laying_start, laying_turn, laying_last, laying_full}
 use Rattle.report.proofs.put_lines.Goals as goal
 
 pub loop-more-init : goal.loop-more-init
@@ -17,20 +16,20 @@ pub slice_bounds-write_part-end : goal.slice_bounds-write_part-end
 slice_bounds-write_part-end c = sym (length-take-le _ _ (line-room _ _ refl c.next_line-next.ensures.line_after c.next_line-next.ensures.len_bound))
 
 pub overflow_add-len : goal.overflow_add-len
-overflow_add-len c = omega (arith, c.next_line-next.ensures.len_bound, leb-true 192 (length c.loop-more.out - c.loop-more.len) c.if-out-len-ge192.true, c.loop-more.invariant.fits, c.loop-more.invariant.writing.size)
+overflow_add-len c = omega (arith, c.next_line-next.ensures.len_bound, c.if-out-len-ge192.true, c.loop-more.invariant.fits, c.loop-more.invariant.writing.size)
 
 pub loop-more-smaller : goal.loop-more-smaller
-loop-more-smaller c = (laying_turn c.args.network c.args.cap c.args.s.now c.args.out.now c.args.at.0 c.next_line-next.result _ _ refl c.next_line-next.ensures.value c.next_line-next.ensures.line_after c.next_line-next.ensures.len_bound c.loop-more-test.true (leb-true 192 _ c.if-out-len-ge192.true) c.loop-more.invariant c.write_part.ensures.value c.write_part.ensures.out_after).1
+loop-more-smaller c = (laying_turn c.args.network c.args.cap c.args.s.now c.args.out.now c.args.at.0 c.next_line-next.result _ _ refl c.next_line-next.ensures.value c.next_line-next.ensures.line_after c.next_line-next.ensures.len_bound c.loop-more-test.true c.if-out-len-ge192.true c.loop-more.invariant c.write_part.ensures.value c.write_part.ensures.out_after).1
 
 pub loop-more-preserved : goal.loop-more-preserved
-loop-more-preserved c = (laying_turn c.args.network c.args.cap c.args.s.now c.args.out.now c.args.at.0 c.next_line-next.result _ _ refl c.next_line-next.ensures.value c.next_line-next.ensures.line_after c.next_line-next.ensures.len_bound c.loop-more-test.true (leb-true 192 _ c.if-out-len-ge192.true) c.loop-more.invariant c.write_part.ensures.value c.write_part.ensures.out_after).0
+loop-more-preserved c = (laying_turn c.args.network c.args.cap c.args.s.now c.args.out.now c.args.at.0 c.next_line-next.result _ _ refl c.next_line-next.ensures.value c.next_line-next.ensures.line_after c.next_line-next.ensures.len_bound c.loop-more-test.true c.if-out-len-ge192.true c.loop-more.invariant c.write_part.ensures.value c.write_part.ensures.out_after).0
 
 pub shape_of-out-else-out-len-ge192 : goal.shape_of-out-else-out-len-ge192
 shape_of-out-else-out-len-ge192 c = c.loop-more.invariant.writing.size
 
 pub returns-else-out-len-ge192 : goal.returns-else-out-len-ge192
 returns-else-out-len-ge192 c =
-    let e = laying_full c.args.network c.args.cap c.args.s.now c.args.out.now c.args.at.0 c.loop-more-test.true (leb-false 192 _ c.if-out-len-ge192.false) c.loop-more.invariant in record { value = e.0; out_after = e.1.0; prefix_len = e.1.1 }
+    let e = laying_full c.args.network c.args.cap c.args.s.now c.args.out.now c.args.at.0 c.loop-more-test.true c.if-out-len-ge192.false c.loop-more.invariant in record { value = e.0; out_after = e.1.0; prefix_len = e.1.1 }
 
 pub shape_of-out-after-loop-more : goal.shape_of-out-after-loop-more
 shape_of-out-after-loop-more c = c.loop-more.invariant.writing.size

@@ -1,7 +1,6 @@
 -- `report::put_lines` meets its contract: each turn stores the line of a step, and what is to come is the block in the room that is left.
-use Rattle.std.proofs.Common.{◌-◌, length, sym, refl, arith, length-take-le, rules, leb-false, leb-true}
 use Rattle.report.proofs.ReportLaws.{lines_from}
-use Rattle.report.proofs.BlockLaws.{line-room, Laying, laying_start, laying_turn, laying_last, laying_full}
+use Rattle.report.proofs.BlockLaws.{Laying}
 use Rattle.report.proofs.put_lines.Given as goal
 
 abbrev pub invariant-loop-more : goal.invariant-loop-more

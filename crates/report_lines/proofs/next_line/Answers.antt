@@ -7,7 +7,6 @@ use lib.ListN.{length}
 use Rattle.wire.specs.Output.{Wrote}
 use Rattle.report_lines.specs.NextLines.{next_of}
 use Rattle.report_lines.proofs.LastLaws.{last_step}
-use borrow.Author.Rules.{rules}
 use Rattle.report_lines.proofs.next_line.Goals as goal
 
 line-end : {out bs last : List ℕ} {e : ℕ} → Wrote out 0 bs e last → e ≡ length bs
@@ -26,4 +25,4 @@ returns-in-Message c =
 pub returns-in_default : goal.returns-in_default
 unfolding next_of
 returns-in_default c =
-    record { value = rw (line-end c.step_line-len.ensures.wrote, ← c.step-step.ensures) (last_step c.step-step.result c.args.at (length c.args.s.now) c.in_default.keys3); line_after = rw (← c.step-step.ensures) c.step_line-len.ensures.wrote.bytes; len_bound = c.step_line-len.ensures.upper_bound }
+    record { value = rw (line-end c.step_line-len.ensures.wrote, ← c.step-step.ensures) (last_step c.step-step.result c.args.at (length c.args.s.now) c.in_default.not-Handshake c.in_default.not-Message); line_after = rw (← c.step-step.ensures) c.step_line-len.ensures.wrote.bytes; len_bound = c.step_line-len.ensures.upper_bound }

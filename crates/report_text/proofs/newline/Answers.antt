@@ -1,6 +1,5 @@
 -- `report_text::newline` meets its contract: one byte was stored.
 use mathlib.Core.Path.{refl}
-use borrow.Author.Rules.{rules}
 use Rattle.wire.proofs.OutputLaws.{wrote_byte}
 use Rattle.report_text.proofs.newline.Goals as goal
 

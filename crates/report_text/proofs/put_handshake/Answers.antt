@@ -2,7 +2,6 @@
 use native.Mathlib.Omega.{arith}
 use Rattle.wire.proofs.OutputLaws.{wrote_then}
 use Rattle.report_text.specs.Lines.{handshake_line}
-use borrow.Author.Rules.{rules}
 use Rattle.report_text.proofs.put_handshake.Goals as goal
 
 pub returns : goal.returns

@@ -2,7 +2,6 @@
 use native.Mathlib.Omega.{arith}
 use Rattle.wire.proofs.OutputLaws.{wrote_then}
 use Rattle.report_text.specs.Lines.{peers_line}
-use borrow.Author.Rules.{rules}
 use Rattle.report_text.proofs.put_peers.Goals as goal
 
 pub returns : goal.returns

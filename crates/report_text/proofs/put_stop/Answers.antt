@@ -2,7 +2,6 @@
 use native.Mathlib.Omega.{arith}
 use Rattle.wire.proofs.OutputLaws.{wrote_then}
 use Rattle.report_text.specs.Lines.{stop_line}
-use borrow.Author.Rules.{rules}
 use Rattle.report_text.proofs.put_stop.Goals as goal
 
 pub returns : goal.returns

@@ -2,7 +2,6 @@
 use native.Mathlib.Omega.{arith}
 use Rattle.wire.proofs.OutputLaws.{wrote_then}
 use Rattle.report_text.specs.Lines.{span}
-use borrow.Author.Rules.{rules}
 use Rattle.report_text.proofs.span.Goals as goal
 
 pub returns : goal.returns

@@ -1,8 +1,6 @@
 -- `session_cases::print_reports` is safe and ends: each session ends after its start, within the bytes.
 use Prim.Native.Nat.{◌-◌, ◌≤◌}
-use native.Mathlib.Omega.{arith}
 use lib.ListN.{length}
-use borrow.Author.Rules.{rules}
 use Rattle.session_cases.proofs.print_reports.Given as goal
 
 abbrev pub invariant-loop-at : goal.invariant-loop-at

@@ -3,8 +3,7 @@ use native.Mathlib.Omega.{arith}
 use native.Mathlib.Numerals.{add-one}
 use mathlib.Core.Path.{sym, ◌∙◌}
 use lib.ListN.{length}
-use borrow.Author.Rules.{rules}
-use borrow.Author.Tests.{le-leb, lt-leb, not-true, not-false}
+use borrow.Author.Tests.{le-leb, lt-leb}
 use Rattle.wire.specs.Output.{asked}
 use Rattle.vlq.specs.ShortString.{max_short_string}
 use Rattle.vlq_write.proofs.ask_short_string.Goals as goal

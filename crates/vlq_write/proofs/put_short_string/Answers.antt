@@ -5,7 +5,6 @@ use native.Mathlib.Omega.{arith}
 use mathlib.Core.List.{List, [], ◌∷◌}
 use mathlib.Core.Path.{◌≡◌}
 use lib.ListN.{length, set, length-set}
-use borrow.Author.Rules.{rules}
 use Rattle.wire.specs.declared.Written.{Written}
 use Rattle.wire.specs.Output.{written, output_after, Wrote}
 use Rattle.wire.proofs.OutputLaws.{wrote_byte, wrote_then, wrote_length, wrote_checked}

@@ -4,8 +4,7 @@ use native.Mathlib.Omega.{arith}
 use mathlib.Core.List.{[], ◌∷◌}
 use mathlib.Core.Path.{refl}
 use lib.ListN.{length-set}
-use Rattle.wire.proofs.OutputLaws.{Writing, writing_start, writing-turn, writing-end, wrote_byte}
-use Rattle.vlq.specs.Vlq.{vlq_bytes}
+use Rattle.wire.proofs.OutputLaws.{writing_start, writing-turn, writing-end, wrote_byte}
 use Rattle.vlq.proofs.VlqLaws.{vlq-last, vlq-more, vlq_pos}
 use Rattle.vlq_write.proofs.put_vlq.Goals as goal
 

@@ -1,12 +1,6 @@
 -- `vlq_write::put_vlq` meets its contract. The loop has written the low groups of the value; the bytes of the rest are still to be written.
-use Prim.Native.Nat.{◌+◌, ◌%◌}
-use native.Mathlib.Omega.{arith}
-use mathlib.Core.List.{[], ◌∷◌}
-use mathlib.Core.Path.{refl}
-use lib.ListN.{length-set}
-use Rattle.wire.proofs.OutputLaws.{Writing, writing_start, writing-turn, writing-end, wrote_byte}
+use Rattle.wire.proofs.OutputLaws.{Writing}
 use Rattle.vlq.specs.Vlq.{vlq_bytes}
-use Rattle.vlq.proofs.VlqLaws.{vlq-last, vlq-more, vlq_pos}
 use Rattle.vlq_write.proofs.put_vlq.Given as goal
 
 abbrev pub invariant-loop-rest : goal.invariant-loop-rest

@@ -1,9 +1,7 @@
 -- `vlq_write::vlq_len` meets its contract. The invariant: the bytes counted and those of the rest, without the last, are those of v.
-use mathlib.Core.Path.{◌≡◌, refl, ap}
-use Prim.Native.Nat.{◌+◌, ◌≤◌}
+use mathlib.Core.Path.{refl, ap}
 use native.Mathlib.Omega.{arith}
 use lib.ListN.{length}
-use Rattle.vlq.specs.Vlq.{vlq_bytes}
 use Rattle.vlq.proofs.VlqLaws.{vlq-last, vlq-more}
 use Rattle.vlq_write.proofs.vlq_len.Goals as goal
 

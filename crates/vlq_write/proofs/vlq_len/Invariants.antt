@@ -1,10 +1,8 @@
 -- `vlq_write::vlq_len` meets its contract. The invariant: the bytes counted and those of the rest, without the last, are those of v.
-use mathlib.Core.Path.{◌≡◌, refl, ap}
+use mathlib.Core.Path.{◌≡◌}
 use Prim.Native.Nat.{◌+◌, ◌≤◌}
-use native.Mathlib.Omega.{arith}
 use lib.ListN.{length}
 use Rattle.vlq.specs.Vlq.{vlq_bytes}
-use Rattle.vlq.proofs.VlqLaws.{vlq-last, vlq-more}
 use Rattle.vlq_write.proofs.vlq_len.Given as goal
 
 abbrev pub invariant-loop-rest : goal.invariant-loop-rest

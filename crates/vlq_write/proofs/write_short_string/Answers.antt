@@ -1,6 +1,5 @@
 -- `vlq_write::write_short_string` meets its contract: the questions were answered by sizes and the string, and it was stored once all held.
 use mathlib.Core.List.{[]}
-use borrow.Author.Rules.{rules}
 use borrow.Author.Tests.{leb-true}
 use lib.ListN.{length}
 use Rattle.vlq.specs.ShortString.{max_short_string, short_string_bytes}

@@ -2,8 +2,6 @@
 use Prim.Native.Nat.{◌+◌, ◌-◌}
 use native.Mathlib.Omega.{arith}
 use mathlib.Core.Path.{◌≡◌, sym, ap, ◌∙◌}
-use borrow.Author.Rules.{rules}
-use borrow.Author.Tests.{not-true, not-false}
 use Rattle.messages_peers_read.specs.Answers.{peer_entry_answer}
 use Rattle.walk_by_index.specs.InStream.{entry_in_stream}
 use Rattle.walk_by_index.proofs.InStreamLaws.{inside-within, from-outside, from-got, from-refused}

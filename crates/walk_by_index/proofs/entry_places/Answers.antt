@@ -1,6 +1,5 @@
 -- `walk_by_index::entry_places` meets its contract: each place, and the end, is handed to `in_stream`, and its refusal is handed on.
-use mathlib.Core.Path.{◌≡◌, sym, ◌∙◌}
-use borrow.Author.Rules.{rules}
+use mathlib.Core.Path.{sym, ◌∙◌}
 use Rattle.walk_by_index.specs.InStream.{entry_to_stream}
 use Rattle.walk_by_index.proofs.entry_places.Goals as goal
 

@@ -3,7 +3,6 @@ use Prim.Native.Nat.{◌+◌, ◌-◌}
 use native.Mathlib.Omega.{arith}
 use mathlib.Core.Path.{◌≡◌, sym, ap, ◌∙◌}
 use borrow.Author.Rules.{rules}
-use borrow.Author.Tests.{not-true, not-false}
 use Rattle.wire.proofs.ReaderLaws.{map-got}
 use Rattle.messages_inventory_read.specs.Answers.{id_answer, id_of}
 use Rattle.walk_by_index.specs.InStream.{in_stream, id_in_stream}

@@ -1,6 +1,4 @@
 -- `walk_by_index::in_stream` meets its contract: what `BodyPlace::in_stream` says.
-use mathlib.Core.Path.{◌≡◌}
-use borrow.Author.Rules.{rules}
 use Rattle.walk_by_index.specs.InStream.{in_stream}
 use Rattle.walk_by_index.proofs.in_stream.Goals as goal
 

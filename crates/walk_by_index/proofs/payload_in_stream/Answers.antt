@@ -2,8 +2,6 @@
 use Prim.Native.Nat.{◌+◌, ◌-◌}
 use native.Mathlib.Omega.{arith}
 use mathlib.Core.Path.{◌≡◌, sym, ap, ◌∙◌}
-use borrow.Author.Rules.{rules}
-use borrow.Author.Tests.{not-true, not-false}
 use Rattle.messages_response_read.specs.Answers.{payload_by_index_answer}
 use Rattle.walk_by_index.specs.InStream.{payload_in_stream}
 use Rattle.walk_by_index.proofs.InStreamLaws.{inside-within, from-outside, from-got, from-refused}

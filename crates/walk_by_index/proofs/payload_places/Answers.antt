@@ -1,6 +1,5 @@
 -- `walk_by_index::payload_places` meets its contract: each place, and the end, is handed to `in_stream`, and its refusal is handed on.
-use mathlib.Core.Path.{◌≡◌, sym, ◌∙◌}
-use borrow.Author.Rules.{rules}
+use mathlib.Core.Path.{sym, ◌∙◌}
 use Rattle.walk_by_index.specs.InStream.{payload_to_stream}
 use Rattle.walk_by_index.proofs.payload_places.Goals as goal
 

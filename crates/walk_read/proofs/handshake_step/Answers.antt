@@ -3,7 +3,6 @@ use mathlib.Core.Path.{sym, ap, ◌∙◌}
 use Rattle.wire.proofs.ReaderLaws.{map-got, map-refused}
 use Rattle.handshake_read.specs.Answers.{handshake_of, handshake_answer}
 use Rattle.walk_read.proofs.StepsLaws.{handshake-read, handshake-refused}
-use borrow.Author.Rules.{rules}
 use Rattle.walk_read.proofs.handshake_step.Goals as goal
 
 pub returns-in-Value : goal.returns-in-Value

@@ -3,7 +3,6 @@ use mathlib.Core.Path.{sym, ap, ◌∙◌}
 use Rattle.wire.proofs.ReaderLaws.{map-got, map-refused}
 use Rattle.frame_read.specs.Answers.{frame_of, frame_answer}
 use Rattle.walk_read.proofs.StepsLaws.{frame-inside, frame_opened, frame_refused}
-use borrow.Author.Rules.{rules}
 use Rattle.walk_read.proofs.message_step.Goals as goal
 
 pub open_frame-requires : goal.open_frame-requires

@@ -4,7 +4,6 @@ use native.Mathlib.Omega.{arith}
 use mathlib.Core.Path.{◌≡◌, sym, ap, ◌∙◌}
 use Rattle.messages_read.specs.Answers.{message_answer}
 use Rattle.walk_read.proofs.StepsLaws.{body-got, body_refused}
-use borrow.Author.Rules.{rules}
 use Rattle.walk_read.proofs.open_frame.Goals as goal
 
 pub returns-in-Value : goal.returns-in-Value

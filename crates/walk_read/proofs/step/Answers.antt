@@ -1,7 +1,6 @@
 -- `walk_read::step` meets its contract: by the place.
 use native.Mathlib.Omega.{arith}
 use Rattle.walk_read.proofs.StepsLaws.{at-start, at-end, past_end, at-frame}
-use borrow.Author.Rules.{rules}
 use Rattle.walk_read.proofs.step.Goals as goal
 
 pub returns-then-place-eq0 : goal.returns-then-place-eq0

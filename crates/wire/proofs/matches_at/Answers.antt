@@ -1,9 +1,7 @@
 -- `wire::matches_at` meets its contract. The loop's invariant: the bytes before i are the same.
 -- The measure is what is left of the four. Assumes nothing.
-use Prim.Native.Nat.{◌-◌}
 use native.Mathlib.Omega.{arith}
-use borrow.Author.Rules.{rules}
-use Rattle.wire.proofs.SameLoop.{same-short, SameSoFar, same_start, same_again, same-other, same_end}
+use Rattle.wire.proofs.SameLoop.{same-short, same_start, same_again, same-other, same_end}
 use Rattle.wire.proofs.matches_at.Goals as goal
 
 pub returns-then-s-at : goal.returns-then-s-at

@@ -1,9 +1,7 @@
 -- `wire::matches_at` meets its contract. The loop's invariant: the bytes before i are the same.
 -- The measure is what is left of the four. Assumes nothing.
 use Prim.Native.Nat.{◌-◌}
-use native.Mathlib.Omega.{arith}
-use borrow.Author.Rules.{rules}
-use Rattle.wire.proofs.SameLoop.{same-short, SameSoFar, same_start, same_again, same-other, same_end}
+use Rattle.wire.proofs.SameLoop.{SameSoFar}
 use Rattle.wire.proofs.matches_at.Given as goal
 
 abbrev pub invariant-loop-i : goal.invariant-loop-i

@@ -1,5 +1,4 @@
 -- `wire_output::ask_output` meets its contract: each answer is the definition's, by the tests that led to it.
-use borrow.Author.Rules.{rules}
 use borrow.Author.Tests.{le-leb, lt-leb, eq-eqb, ne_eqb}
 use Rattle.wire_output.specs.Asked.{output_asked}
 use Rattle.wire_output.proofs.ask_output.Goals as goal

@@ -1,7 +1,6 @@
 -- `wire_output::ask_room` meets its contract: each answer is the definition's, by the tests that led to it.
 use Prim.Native.Nat.{◌+◌}
 use native.Mathlib.Omega.{arith}
-use borrow.Author.Rules.{rules}
 use borrow.Author.Tests.{le-leb, lt-leb}
 use Rattle.wire.specs.Output.{asked}
 use Rattle.wire_output.proofs.ask_room.Goals as goal

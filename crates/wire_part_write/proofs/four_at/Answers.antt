@@ -2,7 +2,7 @@
 use Prim.Native.Nat.{◌-◌}
 use native.Mathlib.Omega.{arith}
 use mathlib.Core.Path.{refl}
-use Rattle.wire_part_write.specs.CopiedLaws.{Copied, copied_start, copied_next, copied_end}
+use Rattle.wire_part_write.specs.CopiedLaws.{copied_start, copied_next, copied_end}
 use Rattle.wire_part_write.proofs.four_at.Goals as goal
 
 pub loop-i-init : goal.loop-i-init

@@ -1,8 +1,6 @@
 -- `wire_part_write::four_at` meets its contract: the first i bytes of the block are copied.
 use Prim.Native.Nat.{◌-◌}
-use native.Mathlib.Omega.{arith}
-use mathlib.Core.Path.{refl}
-use Rattle.wire_part_write.specs.CopiedLaws.{Copied, copied_start, copied_next, copied_end}
+use Rattle.wire_part_write.specs.CopiedLaws.{Copied}
 use Rattle.wire_part_write.proofs.four_at.Given as goal
 
 abbrev pub invariant-loop-i : goal.invariant-loop-i

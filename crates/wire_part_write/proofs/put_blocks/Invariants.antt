@@ -1,16 +1,9 @@
 -- `wire_part_write::put_blocks` meets its contract: before each turn the first i bytes of s were stored.
 -- a block more
-use Prim.Native.Nat.{ℕ, ◌+◌, ◌-◌, ◌≤◌}
-use native.Mathlib.Nat.{add-zero}
-use native.Mathlib.Omega.{arith}
-use mathlib.Core.List.{List, ◌++◌}
-use mathlib.Core.Path.{◌≡◌, sym, ap, ◌∙◌}
-use borrow.Author.Rules.{rules}
-use lib.ListN.{length, take, drop}
-use lib.Seq.{take-add, length-take-le}
-use Rattle.wire.specs.Output.{put, Wrote}
-use Rattle.wire.proofs.OutputLaws.{wrote_none, wrote_then, wrote_length}
-use Rattle.wire.proofs.ReaderLaws.{length_part}
+use Prim.Native.Nat.{◌+◌, ◌-◌, ◌≤◌}
+use mathlib.Core.Path.{◌≡◌}
+use lib.ListN.{length, take}
+use Rattle.wire.specs.Output.{Wrote}
 use Rattle.wire_part_write.proofs.put_blocks.Given as goal
 
 abbrev pub invariant-loop-i : goal.invariant-loop-i

@@ -1,6 +1,5 @@
 -- `wire_part_write::put_part` meets its contract: the last eight bytes are stored over what the blocks before left of them.
 use native.Mathlib.Omega.{arith}
-use borrow.Author.Rules.{rules}
 use Rattle.wire_part_write.specs.LastBlockLaws.{last_block}
 use Rattle.wire_part_write.proofs.put_part.Goals as goal
 

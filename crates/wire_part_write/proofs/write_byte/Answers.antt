@@ -1,7 +1,6 @@
 -- `wire_part_write::write_byte` meets its contract: the questions were answered by sizes, and the byte was stored once there was room.
 use native.Mathlib.Omega.{arith}
 use mathlib.Core.List.{[], ◌∷◌}
-use borrow.Author.Rules.{rules}
 use Rattle.wire.proofs.OutputLaws.{wrote_byte}
 use Rattle.wire_output.specs.CheckedLaws.{accepted, stored, kept}
 use Rattle.wire_part_write.proofs.write_byte.Goals as goal
@@ -16,4 +15,4 @@ returns-in-To c =
 pub returns-in_default : goal.returns-in_default
 returns-in_default c =
     let e = kept [] [] _ _ (c.args.b ∷ []) c.ask_room-answer.ensures c.in_default.is
- in record { value = e.0; out_after = e.1 }
+    in record { value = e.0; out_after = e.1 }

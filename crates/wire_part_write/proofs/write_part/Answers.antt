@@ -1,6 +1,5 @@
 -- `wire_part_write::write_part` meets its contract: the questions were answered by sizes, and the part was stored once there was room.
 use mathlib.Core.List.{[]}
-use borrow.Author.Rules.{rules}
 use Rattle.wire_output.specs.CheckedLaws.{accepted, stored, kept}
 use Rattle.wire_part_write.proofs.write_part.Goals as goal
 
@@ -14,4 +13,4 @@ returns-in-To c =
 pub returns-in_default : goal.returns-in_default
 returns-in_default c =
     let e = kept [] [] _ _ _ c.ask_room-answer.ensures c.in_default.is
- in record { value = e.0; out_after = e.1 }
+    in record { value = e.0; out_after = e.1 }

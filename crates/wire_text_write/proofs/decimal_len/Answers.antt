@@ -1,6 +1,5 @@
 -- `wire_text_write::decimal_len` meets its contract: the digits are those of the number in decimal.
 use native.Mathlib.Omega.{arith}
-use borrow.Author.Rules.{rules}
 use Rattle.wire_text_write.specs.TextLaws.{decimal-length}
 use Rattle.wire_text_write.proofs.decimal_len.Goals as goal
 

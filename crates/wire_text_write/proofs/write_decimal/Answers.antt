@@ -1,6 +1,5 @@
 -- `wire_text_write::write_decimal` meets its contract: the part that was written is the number in decimal.
 use native.Mathlib.Omega.{arith}
-use borrow.Author.Rules.{rules}
 use Rattle.wire_text_write.specs.TextLaws.{decimal_spelled}
 use Rattle.wire_text_write.proofs.write_decimal.Goals as goal
 

@@ -1,6 +1,5 @@
 -- `export_arrays::bodies::message_numbers` meets its contract: case by case.
 use Rattle.export_arrays.specs.Messages.{message_numbers}
-use borrow.Author.Rules.{rules}
 use Rattle.export_arrays.proofs.bodies.message_numbers.Goals as goal
 
 pub returns-in-GetPeers : goal.returns-in-GetPeers

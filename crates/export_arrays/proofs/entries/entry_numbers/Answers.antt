@@ -1,5 +1,4 @@
 -- `export_arrays::entries::entry_numbers` meets its contract, case by case.
-use borrow.Author.Rules.{rules}
 use Rattle.export_arrays.specs.Entries.{with_address}
 use Rattle.export_arrays.proofs.entries.entry_numbers.Goals as goal
 

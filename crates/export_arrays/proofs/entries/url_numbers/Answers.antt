@@ -1,5 +1,4 @@
 -- `export_arrays::entries::url_numbers` meets its contract, case by case.
-use borrow.Author.Rules.{rules}
 use Rattle.export_arrays.specs.Entries.{url_next}
 use Rattle.export_arrays.proofs.entries.url_numbers.Goals as goal
 

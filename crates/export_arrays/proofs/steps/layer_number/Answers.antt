@@ -1,6 +1,5 @@
 -- `export_arrays::steps::layer_number` meets its contract: case by case.
 use Rattle.export_arrays.specs.Steps.{layer_number}
-use borrow.Author.Rules.{rules}
 use Rattle.export_arrays.proofs.steps.layer_number.Goals as goal
 
 pub returns-in-Handshake : goal.returns-in-Handshake

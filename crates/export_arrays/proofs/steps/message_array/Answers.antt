@@ -1,6 +1,5 @@
 -- `export_arrays::steps::message_array` meets its contract: case by case.
 use Rattle.export_arrays.specs.Steps.{with_message}
-use borrow.Author.Rules.{rules}
 use Rattle.export_arrays.proofs.steps.message_array.Goals as goal
 
 pub returns-in-GetPeers : goal.returns-in-GetPeers

@@ -1,6 +1,5 @@
 -- `export_arrays::steps::step_result` meets its contract: by the kind of step.
 use Rattle.export_arrays.specs.Steps.{step_number, step_after}
-use borrow.Author.Rules.{rules}
 use Rattle.export_arrays.proofs.steps.step_result.Goals as goal
 
 pub returns-in-Handshake : goal.returns-in-Handshake

@@ -1,6 +1,5 @@
 -- `export_replay::print::hex` is safe and ends: the measure is what is left of s.
 use Prim.Native.Nat.{◌≤◌, ◌-◌}
-use native.Mathlib.Omega.{arith}
 use lib.ListN.{length}
 use Rattle.export_replay.proofs.print.hex.Given as goal
 

@@ -1,8 +1,6 @@
 -- `export_replay::print::numbers` is safe and ends: the measure is what is left of r.
 use Prim.Native.Nat.{◌≤◌, ◌-◌}
-use native.Mathlib.Omega.{arith}
 use lib.ListN.{length}
-use borrow.Author.Rules.{rules}
 use Rattle.export_replay.proofs.print.numbers.Given as goal
 
 abbrev pub invariant-loop-i : goal.invariant-loop-i

@@ -1,8 +1,5 @@
 -- `export_replay::tables::read_table` is safe and ends: the measure is how many numbers are left.
 use Prim.Native.Nat.{◌≤◌, ◌-◌}
-use native.Mathlib.Omega.{arith}
-use lib.ListN.{length}
-use borrow.Author.Rules.{rules}
 use Rattle.export_replay.proofs.tables.read_table.Given as goal
 
 abbrev pub invariant-loop-i : goal.invariant-loop-i

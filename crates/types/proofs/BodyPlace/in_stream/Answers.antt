@@ -1,7 +1,6 @@
 -- `BodyPlace::in_stream` meets its contract: the two tests of the code are the two of `located`.
 use Prim.Native.Nat.{◌+◌, ◌^◌}
 use native.Mathlib.Omega.{arith}
-use borrow.Author.Rules.{rules}
 use borrow.Author.Tests.{le-leb, lt-leb, lt-ltb, le-ltb}
 use Rattle.types.specs.Places.{located}
 use Rattle.types.proofs.BodyPlace.in_stream.Goals as goal

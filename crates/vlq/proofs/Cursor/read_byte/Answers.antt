@@ -2,7 +2,6 @@
 use mathlib.Core.Path.{sym}
 use native.Mathlib.Omega.{arith}
 use Rattle.wire.proofs.ReaderLaws.{byte-got, byte_missing, byte-outside}
-use borrow.Author.Rules.{rules}
 use Rattle.vlq.proofs.Cursor.read_byte.Goals as goal
 
 pub returns-then-s-at : goal.returns-then-s-at

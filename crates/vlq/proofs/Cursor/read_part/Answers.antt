@@ -3,7 +3,6 @@ use mathlib.Core.Path.{sym}
 use native.Mathlib.Omega.{arith}
 use Rattle.wire.specs.Reader.{map_answer}
 use Rattle.wire.proofs.ReaderLaws.{part-place, part_missing, part-outside}
-use borrow.Author.Rules.{rules}
 use Rattle.vlq.proofs.Cursor.read_part.Goals as goal
 
 pub returns-then-s-at : goal.returns-then-s-at

@@ -3,7 +3,6 @@ use mathlib.Core.Path.{sym, ap, ◌∙◌}
 use Rattle.wire.specs.Reader.{map_answer}
 use Rattle.vlq.specs.ShortString.{short_string}
 use Rattle.vlq.specs.Answers.{byte_answer}
-use borrow.Author.Rules.{rules}
 use Rattle.vlq.proofs.Cursor.read_short_string.Goals as goal
 
 pub returns-in-Value : goal.returns-in-Value

@@ -3,7 +3,6 @@ use mathlib.Core.Path.{sym, ◌∙◌}
 use mathlib.Core.Bool.{true, false}
 use native.Mathlib.Omega.{arith}
 use Rattle.vlq.proofs.ShortStringLaws.{string-got, string_missing, string-outside}
-use borrow.Author.Rules.{rules}
 use Rattle.vlq.proofs.Cursor.read_string.Goals as goal
 
 pub returns-then-s-at : goal.returns-then-s-at

@@ -1,7 +1,7 @@
 -- `vlq::Cursor::read_vlq` meets its contract. The loop's invariant and what follows from it stand in `VlqLoop`.
 use Prim.Native.Nat.{◌-◌, ◌%◌}
 use native.Mathlib.Omega.{arith}
-use Rattle.vlq.proofs.VlqLoop.{VlqSoFar, vlq-outside, vlq-start, vlq-weight, vlq-fits, vlq_tenth_weight, vlq_tenth_below, vlq_missing, vlq-end, vlq_again, vlq_tenth, vlq_long}
+use Rattle.vlq.proofs.VlqLoop.{vlq-outside, vlq-start, vlq-weight, vlq-fits, vlq_tenth_weight, vlq_tenth_below, vlq_missing, vlq-end, vlq_again, vlq_tenth, vlq_long}
 use Rattle.vlq.proofs.Cursor.read_vlq.Goals as goal
 
 pub returns-then-s-at : goal.returns-then-s-at

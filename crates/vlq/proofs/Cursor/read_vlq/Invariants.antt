@@ -1,7 +1,6 @@
 -- `vlq::Cursor::read_vlq` meets its contract. The loop's invariant and what follows from it stand in `VlqLoop`.
-use Prim.Native.Nat.{◌-◌, ◌%◌}
-use native.Mathlib.Omega.{arith}
-use Rattle.vlq.proofs.VlqLoop.{VlqSoFar, vlq-outside, vlq-start, vlq-weight, vlq-fits, vlq_tenth_weight, vlq_tenth_below, vlq_missing, vlq-end, vlq_again, vlq_tenth, vlq_long}
+use Prim.Native.Nat.{◌-◌}
+use Rattle.vlq.proofs.VlqLoop.{VlqSoFar}
 use Rattle.vlq.proofs.Cursor.read_vlq.Given as goal
 
 abbrev pub invariant-loop-i : goal.invariant-loop-i

@@ -3,7 +3,6 @@ use mathlib.Core.Path.{sym, ap, ◌∙◌}
 use borrow.Author.Tests.{le-leb, lt-leb}
 use Rattle.vlq.specs.Vlq.{vlq_length}
 use Rattle.vlq.specs.Answers.{vlq_answer}
-use borrow.Author.Rules.{rules}
 use Rattle.vlq.proofs.Cursor.read_vlq_length.Goals as goal
 
 pub returns-then-v : goal.returns-then-v
