@@ -1,4 +1,5 @@
--- What can be said of an input that was read: how many bytes stand at the start of the buffer. Of the bytes the contract of `libc::read` says nothing.
+-- What can be said of an input that was read: how many bytes stand at the start of the buffer. Which bytes these are the
+-- contract of a read does not say.
 use Rattle.std.specs.Prelude.{ℕ, zero, suc, ◌+◌, ◌≤◌, ◌<◌, min, List, ℤ, pos, negsuc}
 use Rattle.io.specs.Counts.{IsPrefixLen}
 use Rattle.report_input_read.specs.declared.Input.{Input}
