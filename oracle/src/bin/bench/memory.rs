@@ -11,8 +11,8 @@ use std::thread::sleep;
 use std::time::Duration;
 use std::{env, fs};
 
-/// Where `rt run` in `crates/session` leaves the program unless `SESSION` says otherwise, seen from the
-/// oracle folder.
+/// Where `rt run` in crates/session leaves the program unless `SESSION` says otherwise, seen from
+/// the oracle folder.
 const DEFAULT: &str = "../crates/session/out/session";
 
 /// The longest session that the program takes.
