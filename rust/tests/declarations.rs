@@ -61,11 +61,11 @@ fn in_sys() -> Vec<Function> {
 /// Those of the library's sources, by name. A slice becomes a pointer and a length, which is `n` for
 /// the first parameter.
 fn in_library() -> Vec<Function> {
-    let folder = Path::new(env!("CARGO_MANIFEST_DIR")).join("../crates/haspeljo/src");
+    let folder = Path::new(env!("CARGO_MANIFEST_DIR")).join("../crates/haspeljo_c/src");
     let mut all = vec![];
     for file in fs::read_dir(folder).expect("the library's sources") {
         let text = fs::read_to_string(file.unwrap().path()).unwrap();
-        let found = text.split("\n#[no_mangle]\npub extern \"C\" fn ").skip(1);
+        let found = text.split("\n#[unsafe(no_mangle)]\npub extern \"C\" fn ").skip(1);
         all.extend(found.map(|text| rust_function(text, library_parameter)));
         assert_eq!(text.matches("no_mangle").count(), text.matches("extern \"C\"").count());
     }

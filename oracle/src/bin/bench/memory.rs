@@ -11,9 +11,9 @@ use std::thread::sleep;
 use std::time::Duration;
 use std::{env, fs};
 
-/// Where `rt check session` puts the program unless `SESSION` says otherwise, seen from the oracle
-/// folder.
-const DEFAULT: &str = "../target/bin/session";
+/// Where `rt run` in `crates/session` leaves the program unless `SESSION` says otherwise, seen from the
+/// oracle folder.
+const DEFAULT: &str = "../crates/session/out/session";
 
 /// The longest session that the program takes.
 const MOST: usize = 65_536;
