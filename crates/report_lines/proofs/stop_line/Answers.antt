@@ -1,4 +1,5 @@
 -- `report_lines::stop_line` meets its contract: by the layer.
+use borrow.Author.Rules.{rules}
 use Rattle.report_lines.specs.StepLines.{stop_text}
 use Rattle.report_lines.proofs.stop_line.Goals as goal
 
