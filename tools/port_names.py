@@ -21,6 +21,8 @@ TYPED = re.compile(rf"^\s*{MARKS}(?:record|data) ({NAME})")
 WORDS = """length take drop append map set get_or cons nil snoc replicate zip filter reverse sum min max all any head tail foldr
 foldl ltb leb eqb cond true false zero suc and or not add sub mul div mod pow le lt eq some none""".split()
 NOT_NAMES = {"let", "in", "use", "mod", "where", "unfolding", "module", "elim", "→", "λ"}
+# fields whose type begins on the next line
+LATE = {"readPayload": "read_payload", "readFeatures": "read_features"}
 SPLIT = re.compile(r"([\s(){}\[\];,.\"`]+)")
 
 
@@ -116,7 +118,7 @@ def new_names():
                 final[n] = s + "_lem"
             if len(names) > 2:
                 print("look: three names fall together:", names)
-    return {n: s for n, s in final.items() if n != s}
+    return {n: s for n, s in final.items() if n != s} | LATE
 
 
 def imported(text):

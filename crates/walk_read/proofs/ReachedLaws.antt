@@ -59,7 +59,7 @@ same_body cap part whole body h e =
       payload_by_index = λ index. ap (payload_at index) e;
       entry_by_index = λ index. ap (entry_at cap index) e;
       feature_by_index = λ index at. ap (λ (b : List ℕ). feature_at index b at) e;
-      readPayload = λ total at. ap (λ (b : List ℕ). payload_after (length b) total b at) e;
+      read_payload = λ total at. ap (λ (b : List ℕ). payload_after (length b) total b at) e;
       read_entry = λ at. ap (λ (b : List ℕ). entry b at) e;
       read_feature = λ at. ap (λ (b : List ℕ). feature b at) e;
     }
@@ -323,5 +323,5 @@ module _ (network : Network) (cap : ℕ) (s : List ℕ) where
             peer = rw (p, z) (entry-given s k at u b h.entry i.end.0 r l);
             same = rw (p, z) (entry-same s k at u b h.entry i.end.0 r l);
             feature_by_index = rw (p, z) (feature-same s k at u b h.entry i.end.0 r l);
-            readFeatures = rw p (features-same s k at u b h.entry i.end.0 r l);
+            read_features = rw p (features-same s k at u b h.entry i.end.0 r l);
           }

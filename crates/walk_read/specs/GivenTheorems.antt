@@ -30,7 +30,7 @@ pub record SameBody (cap : ℕ) (part whole : List ℕ) (body : StreamPart) : Ty
   pub payload_by_index : (index : ℕ) → payload_at index (part_in part body) ≡ payload_at index (part_in whole body)
   pub entry_by_index : (index : ℕ) → entry_at cap index (part_in part body) ≡ entry_at cap index (part_in whole body)
   pub feature_by_index : (index at : ℕ) → feature_at index (part_in part body) at ≡ feature_at index (part_in whole body) at
-  pub readPayload :
+  pub read_payload :
       (total at : ℕ)
       → payload_after (length (part_in part body)) total (part_in part body) at
       ≡ payload_after (length (part_in whole body)) total (part_in whole body) at
@@ -43,7 +43,7 @@ pub record SameEntry (part whole : List ℕ) (i : HandshakeItem) : Type 0 where
   pub peer : map_answer peer_spec_of (entry whole (entry_place i.handshake.peer)) ≡ got i.handshake.peer i.end.0
   pub same : entry part (entry_place i.handshake.peer) ≡ entry whole (entry_place i.handshake.peer)
   pub feature_by_index : (index : ℕ) → feature_at index part (entry_place i.handshake.peer) ≡ feature_at index whole (entry_place i.handshake.peer)
-  pub readFeatures :
+  pub read_features :
       (n : ℕ) → n ≤ i.handshake.peer.features.count
       → list_of n (λ before. feature) part i.handshake.peer.features.start ≡ list_of n (λ before. feature) whole i.handshake.peer.features.start
 
