@@ -1,6 +1,6 @@
 -- The table in other words: each range of document 01, "Addresses", and document 02, §5, by its first and its last address as numbers. An
 -- address is bogus exactly where one of them has it, on either network.
-use Rattle.std.specs.Prelude.{ℕ, ◌+◌, ◌*◌, ◌-◌, ◌^◌, ◌≡◌, refl, List, [], ◌∷◌, ◌++◌, Bool, true, false, ◌||◌, ◌&&◌, leb}
+use Rattle.std.specs.Prelude.{ℕ, ◌+◌, ◌*◌, ◌^◌, ◌≡◌, refl, List, [], ◌∷◌, ◌++◌, Bool, true, false, ◌||◌, ◌&&◌, leb}
 use Rattle.std.proofs.Math.Bool.{and-eq-true_iff}
 use Rattle.types.specs.declared.Network.TheVariants.{Mainnet, Testnet}
 use Rattle.types.specs.declared.Address.TheVariants.{V4, V6}

@@ -25,10 +25,7 @@ pub fn is_bogus_address(addr: Address, network: Network) -> bool
 fn is_mainnet(network: Network) -> bool
     ensures { result ≡ is_mainnet network }
 {
-    match network {
-        Network::Mainnet => true,
-        Network::Testnet => false,
-    }
+    network == Network::Mainnet
 }
 
 fn is_always_bogus_v4(ip: u32) -> bool

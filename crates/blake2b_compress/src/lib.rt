@@ -1,11 +1,11 @@
 // The compression function F of BLAKE2b (RFC 7693, 3.2).
 #![tactic(auto)]
 
-ghost use Rattle.std.specs.Prelude.{◌≡◌, ◌+◌, ◌*◌, ◌^◌, ◌<◌, ◌++◌};
+ghost use Rattle.std.specs.Prelude.{◌≡◌, ◌+◌, ◌*◌, ◌^◌, ◌<◌, ◌≤◌, ◌++◌};
 ghost use Rattle.blake2b.specs.Blake2b.{◌>>>◌, IV as Blake2b-as-IV, round, for, F};
-ghost use Rattle.blake2b_compress.specs.Parts.{half_columns, half_diagonals, add_words, half_start, half_end, kept, on_columns, on_diagonals, four, work, xored};
+ghost use Rattle.blake2b_compress.specs.Parts.{half_columns, half_diagonals, add_words, half_start, half_end, on_columns, on_diagonals, four, work, xored};
 
-use crate::schedule::{Schedule, schedule, select};
+use crate::schedule::Schedule;
 
 mod schedule;
 
@@ -24,8 +24,7 @@ pub fn compress_at(h: &mut [u64; 8], m: &[u64; 16], t0: u64, t1: u64, f: bool)
 {
     let v = work_vector(*h, t0, t1, f);
     let v = rounds(v, m);
-    let w = xor_halves(*h, v);
-    *h = w;
+    *h = xor_halves(*h, v);
 }
 
 const IV: [u64; 8] = [
@@ -51,10 +50,10 @@ fn work_vector(h: [u64; 8], low: u64, high: u64, f: bool) -> [u64; 16]
     ensures { result ≡ work h (low + high * 2 ^ 64) f }
 {
     let mut v = halves(h, iv());
-    v[12] = v[12] ^ low;
-    v[13] = v[13] ^ high;
+    v[12] ^= low;
+    v[13] ^= high;
     if f {
-        v[14] = v[14] ^ 0xffff_ffff_ffff_ffff;
+        v[14] ^= 0xffff_ffff_ffff_ffff;
     }
     v
 }
@@ -64,10 +63,8 @@ fn halves(h: [u64; 8], k: [u64; 8]) -> [u64; 16]
     ensures { result ≡ h ++ k }
 {
     let mut v = [0u64; 16];
-    for i in 0..8 {
-        v[i] = h[i];
-        v[i + 8] = k[i];
-    }
+    v[..8].copy_from_slice(&h);
+    v[8..].copy_from_slice(&k);
     v
 }
 
@@ -86,116 +83,98 @@ fn xor_halves(h0: [u64; 8], v: [u64; 16]) -> [u64; 8]
 fn rounds(v: [u64; 16], m: &[u64; 16]) -> [u64; 16]
     ensures { result ≡ for 12 (round m.now) v }
 {
-    let s = schedule();
-    let v = rounds_0_to_3(v, m, &s);
-    let v = rounds_4_to_7(v, m, &s);
-    rounds_8_to_11(v, m, &s)
+    let s = Schedule::new();
+    let v = four_rounds::<0>(v, m, &s);
+    let v = four_rounds::<4>(v, m, &s);
+    four_rounds::<8>(v, m, &s)
 }
 
-fn rounds_0_to_3(v: [u64; 16], m: &[u64; 16], s: &Schedule) -> [u64; 16]
-    requires { s.now ≡ kept }
-    ensures { result ≡ four m.now 0 v }
+// Four rounds, from round FIRST on.
+fn four_rounds<const FIRST: usize>(v: [u64; 16], m: &[u64; 16], s: &Schedule) -> [u64; 16]
+    requires { FIRST ≤ 8 }
+    ensures { result ≡ four m.now FIRST v }
 {
-    let v = columns(v, m, s, 0);
-    let v = diagonals(v, m, s, 0);
-    let v = columns(v, m, s, 1);
-    let v = diagonals(v, m, s, 1);
-    let v = columns(v, m, s, 2);
-    let v = diagonals(v, m, s, 2);
-    let v = columns(v, m, s, 3);
-    diagonals(v, m, s, 3)
+    let v = columns(v, m, s, FIRST);
+    let v = diagonals(v, m, s, FIRST);
+    let v = columns(v, m, s, FIRST + 1);
+    let v = diagonals(v, m, s, FIRST + 1);
+    let v = columns(v, m, s, FIRST + 2);
+    let v = diagonals(v, m, s, FIRST + 2);
+    let v = columns(v, m, s, FIRST + 3);
+    diagonals(v, m, s, FIRST + 3)
 }
 
-fn rounds_4_to_7(v: [u64; 16], m: &[u64; 16], s: &Schedule) -> [u64; 16]
-    requires { s.now ≡ kept }
-    ensures { result ≡ four m.now 4 v }
-{
-    let v = columns(v, m, s, 4);
-    let v = diagonals(v, m, s, 4);
-    let v = columns(v, m, s, 5);
-    let v = diagonals(v, m, s, 5);
-    let v = columns(v, m, s, 6);
-    let v = diagonals(v, m, s, 6);
-    let v = columns(v, m, s, 7);
-    diagonals(v, m, s, 7)
+// The two rotations of a half of G.
+#[derive(Clone, Copy)]
+struct Rotations {
+    p: u64,
+    q: u64,
+    ghost in_range: { (0 < p) × (p < 64) × (0 < q) × (q < 64) },
 }
 
-fn rounds_8_to_11(v: [u64; 16], m: &[u64; 16], s: &Schedule) -> [u64; 16]
-    requires { s.now ≡ kept }
-    ensures { result ≡ four m.now 8 v }
-{
-    let v = columns(v, m, s, 8);
-    let v = diagonals(v, m, s, 8);
-    let v = columns(v, m, s, 9);
-    let v = diagonals(v, m, s, 9);
-    let v = columns(v, m, s, 10);
-    let v = diagonals(v, m, s, 10);
-    let v = columns(v, m, s, 11);
-    diagonals(v, m, s, 11)
-}
+const FIRST_HALF: Rotations = Rotations { p: 32, q: 24 };
+
+const SECOND_HALF: Rotations = Rotations { p: 16, q: 63 };
 
 // The four calls of G on the columns are done by halves, and a half of the four in three passes: none touches a word of another, and the
-// processor has four chains to work on at a time.
+// processor has four chains to work on at a time. Columns and diagonals are two functions, since only the places in the
+// vector differ, and each has to be a number where it is compiled.
 fn columns(v: [u64; 16], m: &[u64; 16], s: &Schedule, i: usize) -> [u64; 16]
-    requires { s.now ≡ kept }
     ensures { result ≡ on_columns m.now i v }
 {
-    let x0 = select(m, s, i, 0);
-    let x1 = select(m, s, i, 1);
-    let x2 = select(m, s, i, 2);
-    let x3 = select(m, s, i, 3);
-    let x4 = select(m, s, i, 4);
-    let x5 = select(m, s, i, 5);
-    let x6 = select(m, s, i, 6);
-    let x7 = select(m, s, i, 7);
-    let v = half_columns(v, x0, x2, x4, x6, 32, 24);
-    half_columns(v, x1, x3, x5, x7, 16, 63)
+    let x0 = s.select(m, i, 0);
+    let x1 = s.select(m, i, 1);
+    let x2 = s.select(m, i, 2);
+    let x3 = s.select(m, i, 3);
+    let x4 = s.select(m, i, 4);
+    let x5 = s.select(m, i, 5);
+    let x6 = s.select(m, i, 6);
+    let x7 = s.select(m, i, 7);
+    let v = half_columns(v, x0, x2, x4, x6, FIRST_HALF);
+    half_columns(v, x1, x3, x5, x7, SECOND_HALF)
 }
 
 fn diagonals(v: [u64; 16], m: &[u64; 16], s: &Schedule, i: usize) -> [u64; 16]
-    requires { s.now ≡ kept }
     ensures { result ≡ on_diagonals m.now i v }
 {
-    let x0 = select(m, s, i, 8);
-    let x1 = select(m, s, i, 9);
-    let x2 = select(m, s, i, 10);
-    let x3 = select(m, s, i, 11);
-    let x4 = select(m, s, i, 12);
-    let x5 = select(m, s, i, 13);
-    let x6 = select(m, s, i, 14);
-    let x7 = select(m, s, i, 15);
-    let v = half_diagonals(v, x0, x2, x4, x6, 32, 24);
-    half_diagonals(v, x1, x3, x5, x7, 16, 63)
+    let x0 = s.select(m, i, 8);
+    let x1 = s.select(m, i, 9);
+    let x2 = s.select(m, i, 10);
+    let x3 = s.select(m, i, 11);
+    let x4 = s.select(m, i, 12);
+    let x5 = s.select(m, i, 13);
+    let x6 = s.select(m, i, 14);
+    let x7 = s.select(m, i, 15);
+    let v = half_diagonals(v, x0, x2, x4, x6, FIRST_HALF);
+    half_diagonals(v, x1, x3, x5, x7, SECOND_HALF)
 }
 
-fn half_columns(v: [u64; 16], x0: u64, x1: u64, x2: u64, x3: u64, p: u64, q: u64) -> [u64; 16]
-    requires { (0 < p) × (p < 64) × (0 < q) × (q < 64) }
-    ensures { result ≡ half_columns v x0 x1 x2 x3 p q }
+fn half_columns(v: [u64; 16], x0: u64, x1: u64, x2: u64, x3: u64, r: Rotations) -> [u64; 16]
+    ensures { result ≡ half_columns v x0 x1 x2 x3 r.p r.q }
 {
     let v = add_words(v, x0, x1, x2, x3);
     let v = half_start(v, 0, 4, 12);
     let v = half_start(v, 1, 5, 13);
     let v = half_start(v, 2, 6, 14);
     let v = half_start(v, 3, 7, 15);
-    let v = half_end(v, 4, 8, 12, p, q);
-    let v = half_end(v, 5, 9, 13, p, q);
-    let v = half_end(v, 6, 10, 14, p, q);
-    half_end(v, 7, 11, 15, p, q)
+    let v = half_end(v, 4, 8, 12, r);
+    let v = half_end(v, 5, 9, 13, r);
+    let v = half_end(v, 6, 10, 14, r);
+    half_end(v, 7, 11, 15, r)
 }
 
-fn half_diagonals(v: [u64; 16], x0: u64, x1: u64, x2: u64, x3: u64, p: u64, q: u64) -> [u64; 16]
-    requires { (0 < p) × (p < 64) × (0 < q) × (q < 64) }
-    ensures { result ≡ half_diagonals v x0 x1 x2 x3 p q }
+fn half_diagonals(v: [u64; 16], x0: u64, x1: u64, x2: u64, x3: u64, r: Rotations) -> [u64; 16]
+    ensures { result ≡ half_diagonals v x0 x1 x2 x3 r.p r.q }
 {
     let v = add_words(v, x0, x1, x2, x3);
     let v = half_start(v, 0, 5, 15);
     let v = half_start(v, 1, 6, 12);
     let v = half_start(v, 2, 7, 13);
     let v = half_start(v, 3, 4, 14);
-    let v = half_end(v, 5, 10, 15, p, q);
-    let v = half_end(v, 6, 11, 12, p, q);
-    let v = half_end(v, 7, 8, 13, p, q);
-    half_end(v, 4, 9, 14, p, q)
+    let v = half_end(v, 5, 10, 15, r);
+    let v = half_end(v, 6, 11, 12, r);
+    let v = half_end(v, 7, 8, 13, r);
+    half_end(v, 4, 9, 14, r)
 }
 
 // The message words of four calls of G, whose v[a] are v[0] to v[3].
@@ -217,20 +196,19 @@ fn half_start(v0: [u64; 16], a: usize, b: usize, d: usize) -> [u64; 16]
 {
     let mut v = v0;
     v[a] = std::num::wrapping_add_u64(v[a], v[b]);
-    v[d] = v[d] ^ v[a];
+    v[d] ^= v[a];
     v
 }
 
 // The rotation of the second line of half of G, and its other two lines.
-fn half_end(v0: [u64; 16], b: usize, c: usize, d: usize, p: u64, q: u64) -> [u64; 16]
-    requires b_bound { (b < 16) × (c < 16) × (d < 16) }
-    requires p_nonzero { (0 < p) × (p < 64) × (0 < q) × (q < 64) }
-    ensures { result ≡ half_end v0 b c d p q }
+fn half_end(v0: [u64; 16], b: usize, c: usize, d: usize, r: Rotations) -> [u64; 16]
+    requires { (b < 16) × (c < 16) × (d < 16) }
+    ensures { result ≡ half_end v0 b c d r.p r.q }
 {
     let mut v = v0;
-    v[d] = rotr(v[d], p);
+    v[d] = rotr(v[d], r.p);
     v[c] = std::num::wrapping_add_u64(v[c], v[d]);
-    v[b] = rotr(v[b] ^ v[c], q);
+    v[b] = rotr(v[b] ^ v[c], r.q);
     v
 }
 

@@ -3,7 +3,11 @@ ghost use Rattle.std.specs.Prelude.{◌≡◌, ◌<◌};
 ghost use Rattle.blake2b_compress.specs.Parts.{kept, selected};
 
 // Ten rows of sixteen, one after the other.
-pub(crate) type Schedule = [u8; 160];
+#[derive(Drop)]
+pub(crate) struct Schedule {
+    rows: [u8; 160],
+    ghost is_sigma: { rows ≡ kept },
+}
 
 const SIGMA: [u8; 160] = [
     0, 1, 2, 3, 4, 5, 6, 7, 8, 9, 10, 11, 12, 13, 14, 15, // row 0
@@ -18,17 +22,17 @@ const SIGMA: [u8; 160] = [
     10, 2, 8, 4, 7, 6, 1, 5, 15, 11, 9, 14, 3, 12, 13, 0, // row 9
 ];
 
-pub(crate) fn schedule() -> Schedule
-    ensures { result ≡ kept }
-{
-    SIGMA
-}
+impl Schedule {
+    pub(crate) fn new() -> Self {
+        Schedule { rows: SIGMA }
+    }
 
-// m[s[j]], with s[0..15] := SIGMA[i mod 10].
-pub(crate) fn select(m: &[u64; 16], s: &Schedule, i: usize, j: usize) -> u64
-    requires { (s.now ≡ kept) × (j < 16) }
-    ensures { result ≡ selected m.now i j }
-{
-    let k = s[i % 10 * 16 + j] as usize;
-    m[k]
+    // m[s[j]], with s[0..15] := SIGMA[i mod 10].
+    pub(crate) fn select(&self, m: &[u64; 16], i: usize, j: usize) -> u64
+        requires { j < 16 }
+        ensures { result ≡ selected m.now i j }
+    {
+        let k = self.rows[i % 10 * 16 + j] as usize;
+        m[k]
+    }
 }

@@ -2,6 +2,9 @@
 use Rattle.std.proofs.Common.{◌≡◌, ℕ, zero, suc, ◌+◌, ◌*◌, ◌/◌, ◌%◌, ◌^◌, ◌<◌, ◌≤◌, List, [], ◌∷◌, ◌++◌, length, take, drop, sym, refl, ap, ◌∙◌, ap₂, mul_assoc, suc-add, zero-add, div-one, arith, length-drop, drop-cons, drop-drop, get_or-append-add, pow-add}
 use native.Mathlib.Nat.{div-div-eq-div-mul}
 use lib.ListN.{get_or-append}
+use Rattle.std.specs.Int.{w64, from_le_bytes}
+use Rattle.blake2b.proofs.ElementsLaws.{whole}
+use Rattle.std.proofs.Common.{add-zero, length-take, get_or-take, get_or-drop}
 use Rattle.blake2b.specs.Blake2b.{◌!◌, word, bytes, words, unwords}
 use Rattle.blake2b.proofs.CheckLaws.{length-bytes}
 
@@ -29,6 +32,22 @@ pub word-twice : (n : ℕ) (s : List ℕ) (at a b : ℕ) → at + n ≤ length s
 word-twice n s at a b l ea eb =
     ap₂ (λ (x y : ℕ). x + y * 2 ^ (8 * n)) ea (eb ∙ ap (λ (u : List ℕ). word (take n u)) (sym (drop-drop n at s)))
     ∙ sym (more n n (drop at s) (simp length-drop (omega arith)))
+
+le_word : (a b c d e f g h : ℕ)
+    → from_le_bytes w64 (a ∷ b ∷ c ∷ d ∷ e ∷ f ∷ g ∷ h ∷ []) ≡ word (a ∷ b ∷ c ∷ d ∷ e ∷ f ∷ g ∷ h ∷ [])
+unfolding word
+le_word a b c d e f g h = omega arith
+
+-- eight bytes as a word
+pub word-eight : (s : List ℕ) (at : ℕ) → at + 8 ≤ length s
+    → from_le_bytes w64 (s ! at ∷ s ! (at + 1) ∷ s ! (at + 2) ∷ s ! (at + 3) ∷ s ! (at + 4) ∷ s ! (at + 5) ∷ s ! (at + 6) ∷ s ! (at + 7) ∷ [])
+    ≡ word (take 8 (drop at s))
+word-eight s at l =
+    let n : length (take 8 (drop at s)) ≡ 8 = simp (length-take, length-drop) (omega arith) in
+    let same : (k : ℕ) → k < 8 → take 8 (drop at s) ! k ≡ s ! (at + k) = λ k h. get_or-take 8 (drop at s) k 0 h ∙ get_or-drop at s k 0 in
+    le_word _ _ _ _ _ _ _ _
+    ∙ ap word (sym (whole (take 8 (drop at s)) 8 n
+    ∙ rw (same 0 (omega arith), same 1 (omega arith), same 2 (omega arith), same 3 (omega arith), same 4 (omega arith), same 5 (omega arith), same 6 (omega arith), same 7 (omega arith), add-zero at)))
 
 pub length-words : (n : ℕ) (s : List ℕ) → length (words n s) ≡ n
 unfolding words

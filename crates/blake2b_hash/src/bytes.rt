@@ -1,5 +1,5 @@
 // Words from bytes and bytes from words, the least significant byte first (RFC 7693, 2.4).
-ghost use Rattle.std.specs.Prelude.{◌≡◌, ◌+◌, ◌^◌, ◌<◌, ◌≤◌, ◌++◌, length, take, drop, replicate};
+ghost use Rattle.std.specs.Prelude.{◌≡◌, ◌+◌, ◌<◌, ◌≤◌, ◌++◌, length, take, drop, replicate};
 ghost use Rattle.blake2b.specs.Blake2b.{bb, ◌!◌, word, words, bytes, unwords};
 
 // The sixteen words of the 128 bytes at a place.
@@ -20,10 +20,7 @@ pub(crate) fn padded(s: &[u8], at: usize) -> [u8; 128]
     ensures { result ≡ take bb (drop at s.now ++ replicate bb 0) }
 {
     let mut b = [0u8; 128];
-    let n = s.len() - at;
-    for i in 0..n {
-        b[i] = s[at + i];
-    }
+    b[..s.len() - at].copy_from_slice(&s[at..]);
     b
 }
 
@@ -43,30 +40,20 @@ fn word_at(s: &[u8], i: usize) -> u64
     requires { i + 8 ≤ length s.now }
     ensures { result ≡ word (take 8 (drop i s.now)) }
 {
-    four(s, i) + four(s, i + 4) * 0x1_0000_0000
+    let eight = [
+        s[i],
+        s[i + 1],
+        s[i + 2],
+        s[i + 3],
+        s[i + 4],
+        s[i + 5],
+        s[i + 6],
+        s[i + 7],
+    ];
+    u64::from_le_bytes(eight)
 }
 
-fn four(s: &[u8], i: usize) -> u64
-    requires { i + 4 ≤ length s.now }
-    ensures { (result ≡ word (take 4 (drop i s.now))) × (result < 2 ^ 32) }
-{
-    two(s, i) + two(s, i + 2) * 0x1_0000
-}
-
-fn two(s: &[u8], i: usize) -> u64
-    requires { i + 2 ≤ length s.now }
-    ensures { (result ≡ word (take 2 (drop i s.now))) × (result < 2 ^ 16) }
-{
-    wide(s[i]) + wide(s[i + 1]) * 0x100
-}
-
-fn wide(x: u8) -> u64
-    ensures { (result ≡ x) × (result < 256) }
-{
-    x as u64
-}
-
-// Byte k of a word.
+// Byte k of a word. A shift, since k is no constant, and all eight bytes would be computed for one.
 fn byte_of(x: u64, k: usize) -> u8
     requires { k < 8 }
     ensures { result ≡ bytes 8 x ! k }

@@ -55,8 +55,8 @@ pub fn digest(s: &[u8]) -> [u8; 32]
 pub fn check(s: &[u8]) -> [u8; 4]
     ensures { result ≡ Blake2b·check s.now }
 {
-    let d = digest(s);
-    [d[0], d[1], d[2], d[3]]
+    let [a, b, c, d, ..] = digest(s);
+    [a, b, c, d]
 }
 
 // The high word of the counter, n bytes further: one more where the low word wraps.
@@ -77,7 +77,7 @@ fn before_last(n: usize) -> usize
     if n == 0 { 0 } else { (n - 1) / 128 }
 }
 
-// The hash after the first n blocks of s, none of which is the last.
+// The hash after the first n blocks of s, none of which is the last. They go by number, as the RFC's d[i] do.
 fn absorb(x: Hash, s: &[u8], n: usize) -> Hash
     requires { n * 128 ≤ length s.now }
     ensures { result ≡ absorbed x s.now n }

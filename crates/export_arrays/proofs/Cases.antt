@@ -1,6 +1,5 @@
 -- Each array, of a record whose every number is another: the row as rust/include/haspeljo.h lists it, written out.
-use Rattle.std.specs.Prelude.{ℕ, suc, List, [], ◌∷◌, map, ◌≡◌, refl}
-use Rattle.std.proofs.Math.Option.{none, some}
+use Rattle.std.specs.Prelude.{ℕ, suc, List, [], ◌∷◌, map, ◌≡◌, refl, Some, None as no_value}
 use Rattle.wire.specs.declared.Part.{Part}
 use Rattle.types.specs.declared.Network.TheVariants.{Mainnet, Testnet}
 use Rattle.types.specs.declared.Address.{Address}
@@ -91,8 +90,8 @@ entry_cases =
     -- a feature: its id, its body's place and length, the next place
     ∷ case (feature_next (record { id = 11; body = part 12 13 }) 31) (11 ∷ 12 ∷ 13 ∷ 31 ∷ [])
     -- a URL: 1, its place and length, or three zeros; the next place
-    ∷ case (url_next (some (part 11 12)) 31) (1 ∷ 11 ∷ 12 ∷ 31 ∷ [])
-    ∷ case (url_next none 31) (0 ∷ 0 ∷ 0 ∷ 31 ∷ [])
+    ∷ case (url_next (Some (part 11 12)) 31) (1 ∷ 11 ∷ 12 ∷ 31 ∷ [])
+    ∷ case (url_next no_value 31) (0 ∷ 0 ∷ 0 ∷ 31 ∷ [])
     ∷ []
 
 pub entry_cases_lem : Holds entry_cases

@@ -1,6 +1,5 @@
 -- What is given of an entry, a handshake, a feature and a URL: their numbers, in a row.
-use Rattle.std.specs.Prelude.{ℕ, List, [], ◌∷◌}
-use Rattle.std.proofs.Math.Option.{Option, none, some}
+use Rattle.std.specs.Prelude.{ℕ, List, [], ◌∷◌, Option, Some, None as no_value}
 use Rattle.wire.specs.declared.Part.{Part}
 use Rattle.types.specs.declared.Address.{Address}
 use Rattle.types.specs.declared.Address.TheVariants.{None, V4, V6}
@@ -57,5 +56,5 @@ abbrev pub size_only : ℕ → ℕ → List ℕ
 size_only size next = size ∷ []
 
 unfoldable pub url_next : Option Part → ℕ → List ℕ
-url_next (some p) next = 1 ∷ p.start ∷ p.len ∷ next ∷ []
-url_next none next = 0 ∷ 0 ∷ 0 ∷ next ∷ []
+url_next (Some p) next = 1 ∷ p.start ∷ p.len ∷ next ∷ []
+url_next no_value next = 0 ∷ 0 ∷ 0 ∷ next ∷ []

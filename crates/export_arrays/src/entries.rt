@@ -1,28 +1,28 @@
 // The numbers of an entry and of a URL.
 ghost use Rattle.std.specs.Prelude.{◌≡◌};
-ghost use Rattle.handshake_verdict.specs.Answers.{url};
 ghost use Rattle.export_arrays.specs.Entries.{entry_array, peer_numbers, url_next, stream_entry_next};
 
+use frame_read::StreamPart;
 use handshake_read::{Features, PeerSpec};
-use handshake_verdict::Url;
 use types::Address;
 use walk_by_index::StreamEntry;
 use wire::Part;
 
-pub fn url_numbers(u: Url, next: usize) -> [u64; 4]
-    ensures { result ≡ url_next (url u) next }
+#[tactic(auto, unfolding(crate::specs::Entries::url_next))]
+pub fn url_numbers(url: Option<Part>, next: usize) -> [u64; 4]
+    ensures { result ≡ url_next url next }
 {
-    match u {
-        Url::At(p) => [1, p.start as u64, p.len as u64, next as u64],
-        Url::None => [0, 0, 0, next as u64],
+    match url {
+        Some(p) => [1, p.start as u64, p.len as u64, next as u64],
+        None => [0, 0, 0, next as u64],
     }
 }
 
+#[tactic(auto, unfolding(crate::specs::Entries::with_address))]
 pub fn entry_numbers(timestamp: u64, p: PeerSpec, next: usize) -> [u64; 15]
     ensures { result ≡ peer_numbers timestamp p next }
 {
-    let a = p.address;
-    match a {
+    match p.address {
         Address::None => entry_array(timestamp, p, 0, 0, 0, 0, next),
         Address::V4(ip, port) => entry_array(timestamp, p, 4, ip as u64, 0, port, next),
         Address::V6(high, low, port) => entry_array(timestamp, p, 6, high, low, port, next),
@@ -33,25 +33,27 @@ pub fn entry_numbers(timestamp: u64, p: PeerSpec, next: usize) -> [u64; 15]
 pub fn stream_entry_numbers(e: StreamEntry, next: usize) -> [u64; 15]
     ensures { result ≡ stream_entry_next e next }
 {
-    let version = e.version;
-    let address = e.address;
     let peer = PeerSpec {
-        agent: Part {
-            start: e.agent.start.0,
-            len: e.agent.len,
-        },
-        version,
-        name: Part {
-            start: e.name.start.0,
-            len: e.name.len,
-        },
-        address,
+        agent: part(e.agent),
+        version: e.version,
+        name: part(e.name),
+        address: e.address,
         features: Features {
             count: e.features.count,
             start: e.features.start.0,
         },
     };
     entry_numbers(0, peer, next)
+}
+
+// A part of the stream, by numbers alone.
+fn part(p: StreamPart) -> Part
+    ensures { result ≡ record { start = p.start.0; len = p.len } }
+{
+    Part {
+        start: p.start.0,
+        len: p.len,
+    }
 }
 
 fn entry_array(

@@ -11,12 +11,12 @@ pub mod steps;
 use types::Network;
 
 // The network that a number of C stands for.
+#[tactic(auto, unfolding(crate::specs::Networks::network_of))]
 pub fn network_of(mainnet: u8) -> Network
     ensures { result ≡ network_of mainnet }
 {
-    if mainnet == 0 {
-        Network::Testnet
-    } else {
-        Network::Mainnet
+    match mainnet {
+        0 => Network::Testnet,
+        _ => Network::Mainnet,
     }
 }

@@ -1,11 +1,12 @@
 // The numbers of a step of a session.
 ghost use Rattle.std.specs.Prelude.{◌≡◌};
-ghost use Rattle.export_arrays.specs.Steps.{step_array, message_array, message_step, layer_number, StepLeaves};
+ghost use Rattle.export_arrays.specs.Steps.{step_array, message_step, layer_number, StepLeaves};
 
-use messages_read::Message;
+use crate::bodies::message_numbers;
 use walk_read::{Layer, MessageItem, StepRead};
 
 // 0, with the numbers of the step in r; or 12 for a place past the length, with r as it was.
+#[tactic(auto, unfolding(crate::specs::Steps::step_number, crate::specs::Steps::step_after))]
 pub fn step_result(step: StepRead, r: &mut [u64; 11]) -> u8
     ensures { StepLeaves step result r.old r.new }
 {
@@ -23,8 +24,7 @@ pub fn step_result(step: StepRead, r: &mut [u64; 11]) -> u8
             0
         }
         StepRead::Stop(t) => {
-            let layer = t.layer;
-            *r = array(3, t.start.0, layer_number(layer), t.number as u64);
+            *r = array(3, t.start.0, layer_number(t.layer), t.number as u64);
             0
         }
         StepRead::Outside => 12,
@@ -37,6 +37,8 @@ fn array(kind: u64, a: usize, b: usize, c: u64) -> [u64; 11]
     [kind, a as u64, b as u64, c, 0, 0, 0, 0, 0, 0, 0]
 }
 
+// C's number of a layer.
+#[tactic(auto, unfolding(crate::specs::Steps::layer_number))]
 fn layer_number(layer: Layer) -> usize
     ensures { result ≡ layer_number layer }
 {
@@ -50,27 +52,7 @@ fn layer_number(layer: Layer) -> usize
 fn message_array(i: MessageItem) -> [u64; 11]
     ensures { result ≡ message_step i }
 {
-    let message = i.message;
-    match message {
-        Message::GetPeers => message_numbers(i, 0, 0, 0, 0),
-        Message::Peers(p) => message_numbers(i, 0, p.count, p.bogus, p.start.0),
-        Message::ModifierRequest(l) => message_numbers(i, l.modifier_type, l.count, 0, l.start.0),
-        Message::ModifierResponse(l) => message_numbers(i, l.modifier_type, l.count, 0, l.start.0),
-        Message::Inv(l) => message_numbers(i, l.modifier_type, l.count, 0, l.start.0),
-        Message::SyncInfo => message_numbers(i, 0, 0, 0, 0),
-        Message::Unknown => message_numbers(i, 0, 0, 0, 0),
-    }
-}
-
-fn message_numbers(
-    i: MessageItem,
-    modifier_type: u8,
-    count: usize,
-    bogus: usize,
-    first: usize,
-) -> [u64; 11]
-    ensures { result ≡ message_array i modifier_type count bogus first }
-{
+    let numbers = message_numbers(i.message, 0);
     [
         2,
         i.start.0 as u64,
@@ -78,10 +60,10 @@ fn message_numbers(
         i.code as u64,
         i.body.start.0 as u64,
         i.body.len as u64,
-        modifier_type as u64,
-        count as u64,
-        bogus as u64,
-        first as u64,
+        numbers[0],
+        numbers[1],
+        numbers[2],
+        numbers[3],
         0,
     ]
 }

@@ -28,10 +28,7 @@ abbrev pub config : Network → ProxyMode → Bool → Address → Config
 config network mode verifying address =
     record {
       network = network;
-      mode = mode;
-      state_type_id = 20;
-      verifying = verifying;
-      blocks_to_keep = pos 21;
+      mode = record { proxy = mode; state_type_id = 20; verifying = verifying; blocks_to_keep = pos 21 };
       version = record { major = 22; minor = 23; patch = 24 };
       address = address;
       timestamp = 26;

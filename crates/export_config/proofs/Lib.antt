@@ -1,3 +1,2 @@
-pub mod ConfigLaws
 pub mod Cases
 pub mod ConfigsLaws

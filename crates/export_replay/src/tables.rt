@@ -1,55 +1,30 @@
 // Tables of u32 and strings of bytes behind the numbers of an input: each has its length before it, and this and each number of a table are four
 // bytes, little-endian.
-ghost use Rattle.std.specs.Prelude.{◌≤◌};
-
-use crate::input::{bytes_at, bytes_from, word};
 
 // The most numbers that a table has.
 pub(crate) const MOST: usize = 1_206;
 
-pub(crate) type Table = [u32; MOST];
-
-// The table that s begins with: it fills the first numbers of t, as many as the answer.
-pub(crate) fn read_table(s: &[u8], t: &mut Table) -> usize {
-    let n = table_len(s);
-    let mut i = 0;
-    while i < n {
-        t[i] = word(s, 4 + 4 * i);
-        i += 1;
+// The table that s begins with, stored from the start of t on, and what follows it. It has as many numbers as its length says and are there.
+pub(crate) fn table<'a, 't>(s: &'a [u8], t: &'t mut [u32; MOST]) -> (&'t [u32], &'a [u8]) {
+    let (len, rest) = length(s);
+    let (fours, rest) = rest.split_at(4 * len.min(rest.len() / 4).min(MOST));
+    let (fours, _) = fours.as_chunks::<4>();
+    for (n, four) in t.iter_mut().zip(fours) {
+        *n = u32::from_le_bytes(*four);
     }
-    n
+    (&t[..fours.len()], rest)
 }
 
-// The first n numbers.
-pub(crate) fn numbers(t: &Table, n: usize) -> &[u32] {
-    first(t, n)
+// The string that s begins with, and what follows it. It has as many bytes as its length says and are there.
+pub(crate) fn string(s: &[u8]) -> (&[u8], &[u8]) {
+    let (len, rest) = length(s);
+    rest.split_at(len.min(rest.len()))
 }
 
-fn first(t: &[u32], n: usize) -> &[u32] {
-    if n <= t.len() { &t[0..n] } else { &t[..0] }
-}
-
-pub(crate) fn after_table(s: &[u8]) -> &[u8] {
-    bytes_from(s, 4 + 4 * table_len(s))
-}
-
-// How many numbers it has: as many as its length says and are there.
-fn table_len(s: &[u8]) -> usize
-    ensures { result ≤ 1206 }
-{
-    let n = least(word(s, 0) as usize, bytes_from(s, 4).len() / 4);
-    if n <= MOST { n } else { MOST }
-}
-
-// The string that s begins with: as many bytes as its length says and are there.
-pub(crate) fn string(s: &[u8]) -> &[u8] {
-    bytes_at(s, 4, least(word(s, 0) as usize, bytes_from(s, 4).len()))
-}
-
-pub(crate) fn after_string(s: &[u8]) -> &[u8] {
-    bytes_from(bytes_from(s, 4), string(s).len())
-}
-
-fn least(a: usize, b: usize) -> usize {
-    if a <= b { a } else { b }
+// The length that s begins with, and what follows it; where its bytes are not there, 0 and nothing.
+fn length(s: &[u8]) -> (usize, &[u8]) {
+    match s.split_first_chunk::<4>() {
+        Some((four, rest)) => (u32::from_le_bytes(*four) as usize, rest),
+        None => (0, &[]),
+    }
 }

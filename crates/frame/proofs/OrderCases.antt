@@ -2,9 +2,7 @@
 -- answered "no" at once, and both sides of the limit of a body. Bodies as long as that are given by their length alone,
 -- since counting them would take the prover too long.
 use Rattle.std.specs.Prelude.{ℕ, List, [], ◌∷◌, ◌≡◌, refl, length, replicate}
-use Rattle.wire.specs.Output.{asked, written}
-use Rattle.wire.specs.declared.Written.{Written}
-use Rattle.wire.specs.declared.Written.TheVariants.{To, Refused}
+use Rattle.wire.specs.Output.{asked, written, Written, To, Refused}
 use Rattle.types.specs.declared.Network.TheVariants.{Mainnet}
 use Rattle.frame.proofs.FrameLaws.{body_start, length-frame_bytes}
 use Rattle.frame.specs.Writes.{frame_written}

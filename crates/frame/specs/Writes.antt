@@ -1,7 +1,6 @@
 -- The writer of a raw frame, of any code: what it says, and the bytes it writes.
 use Rattle.std.specs.Prelude.{ℕ, List, [], ◌∷◌, leb, length}
-use Rattle.wire.specs.Output.{ask, written}
-use Rattle.wire.specs.declared.Written.{Written}
+use Rattle.wire.specs.Output.{ask, written, Written}
 use Rattle.vlq.specs.Vlq.{limit}
 use Rattle.types.specs.declared.Network.{Network}
 use Rattle.frame.specs.Frame.{frame_bytes}

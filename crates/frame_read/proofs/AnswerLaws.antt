@@ -9,6 +9,8 @@ use borrow.Author.Tests.{le-leb, lt-leb}
 use Rattle.wire.specs.Bytes.{big_endian, same_bytes}
 use Rattle.wire.specs.Reader.{got, refused, bind, map_answer}
 use Rattle.wire.proofs.ReaderLaws.{field-got, field_missing, field-outside, length_part, map-got, map-refused}
+use Rattle.std.proofs.lemmas.Result.{err_from_is_err_and}
+use Rattle.wire_numbers.specs.PartLaws.{number-part}
 use Rattle.vlq.specs.Vlq.{limit}
 use Rattle.blake2b.specs.Blake2b.{check}
 use Rattle.types.specs.declared.Network.{Network}
@@ -94,3 +96,7 @@ module _ (s : List ℕ) (at : ℕ) where
   body-got (suc n) false p h m =
       let z : at + 4 + suc n - (at + 4) ≡ suc n = omega arith in
       rw (field-got {A = Checked} 8 (4 + suc n) _ s at h, rw z at m)
+
+pub ruleset frame_answers = (frame-outside, frame-short, frame-other, frame_long, frame-got, frame_refused, number-part, err_from_is_err_and)
+
+pub ruleset body_answers = (body-empty, body_missing, body-got)

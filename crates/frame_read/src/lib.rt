@@ -5,12 +5,13 @@ ghost use Rattle.std.specs.Prelude.{◌≡◌, ◌≤◌, length};
 ghost use Rattle.wire.specs.Reader.{map_answer};
 ghost use Rattle.vlq.specs.Vlq.{limit};
 ghost use Rattle.frame.specs.Frame.{body, frame};
-ghost use Rattle.frame_read.specs.Answers.{stream_part_of, frame_of, body_answer, frame_answer};
+ghost use Rattle.frame_read.specs.Answers.{stream_part_of, frame_of};
+ghost use Rattle.types.specs.Answers.{stream_answer};
 
 use frame::MIN_HEADER_SIZE;
-use types::{Network, StreamPlace};
-use wire::MAX_BODY_SIZE;
-use wire_numbers::big_endian_4;
+use types::{Network, StreamPlace, StreamRead};
+use wire::{MAX_BODY_SIZE, Refusal};
+use wire_numbers::big_endian;
 
 const CHECK_SIZE: usize = 4;
 
@@ -28,66 +29,53 @@ pub struct Frame {
     pub body: StreamPart,
 }
 
-// A frame and the place where it ends, or the refusal's number.
-#[derive(Clone, Copy)]
-pub enum FrameRead {
-    Value(Frame, StreamPlace),
-    Refused(u8),
-}
-
-#[derive(Clone, Copy)]
-enum BodyRead {
-    Value(StreamPart, StreamPlace),
-    Refused(u8),
-}
-
 // The frame at a place; bytes after it are ignored.
-pub fn decode(s: &[u8], network: Network, at: StreamPlace) -> FrameRead
-    ensures { frame_answer result ≡ map_answer frame_of (frame network s.now at.0) }
+#[tactic(auto, using(crate::proofs::AnswerLaws::frame_answers))]
+pub fn decode(s: &[u8], network: Network, at: StreamPlace) -> StreamRead<Frame>
+    ensures { stream_answer result ≡ map_answer frame_of (frame network s.now at.0) }
 {
     let start = at.0;
     if s.len() < start {
-        return FrameRead::Refused(12);
+        return Err(Refusal::Outside);
     }
     if s.len() - start < MIN_HEADER_SIZE {
-        return FrameRead::Refused(5);
+        return Err(Refusal::FrameTooShort);
     }
     let magic = network.magic();
     if !wire::matches_at(s, start, magic) {
-        return FrameRead::Refused(6);
+        return Err(Refusal::BadMagic);
     }
-    let n = big_endian_4(&s[start + 5..start + MIN_HEADER_SIZE]) as usize;
+    let n = big_endian::<4>(&s[start + 5..start + MIN_HEADER_SIZE]) as usize;
     if MAX_BODY_SIZE < n {
-        return FrameRead::Refused(7);
+        return Err(Refusal::BodyTooLarge);
     }
     let code = s[start + 4];
-    match read_body(s, start + MIN_HEADER_SIZE, n) {
-        BodyRead::Value(body, end) => FrameRead::Value(Frame { code, body }, end),
-        BodyRead::Refused(m) => FrameRead::Refused(m),
-    }
+    let (body, end) = read_body(s, start + MIN_HEADER_SIZE, n)?;
+    Ok((Frame { code, body }, end))
 }
 
 // A check and the body of n bytes; an empty body has no check.
-fn read_body(s: &[u8], at: usize, n: usize) -> BodyRead
+#[tactic(auto, using(crate::proofs::AnswerLaws::body_answers))]
+fn read_body(s: &[u8], at: usize, n: usize) -> StreamRead<StreamPart>
     requires { (at ≤ length s.now) × (n ≤ limit) }
-    ensures { body_answer result ≡ map_answer stream_part_of (body n s.now at) }
+    ensures { stream_answer result ≡ map_answer stream_part_of (body n s.now at) }
 {
     if n == 0 {
         let start = StreamPlace(at);
-        return BodyRead::Value(StreamPart { start, len: n }, start);
+        return Ok((StreamPart { start, len: n }, start));
     }
     if s.len() - at < CHECK_SIZE + n {
-        return BodyRead::Refused(8);
+        return Err(Refusal::FrameTruncated);
     }
     let start = at + CHECK_SIZE;
     let end = start + n;
     let check = blake2b_hash::check(&s[start..end]);
     if !wire::matches_at(s, at, check) {
-        return BodyRead::Refused(9);
+        return Err(Refusal::ChecksumMismatch);
     }
     let body = StreamPart {
         start: StreamPlace(start),
         len: n,
     };
-    BodyRead::Value(body, StreamPlace(end))
+    Ok((body, StreamPlace(end)))
 }

@@ -1,7 +1,6 @@
 -- What a writer of a frame says by sizes alone: the length of its body, the place, and the length of the output.
 use Rattle.std.specs.Prelude.{ℕ, zero, suc, ◌+◌, [], ◌∷◌, leb}
-use Rattle.wire.specs.Output.{ask}
-use Rattle.wire.specs.declared.Written.{Written}
+use Rattle.wire.specs.Output.{ask, Written}
 use Rattle.vlq.specs.Vlq.{limit}
 use Rattle.wire_output.specs.Asked.{written_for}
 

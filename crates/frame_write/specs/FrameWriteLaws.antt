@@ -1,7 +1,8 @@
 -- Laws of a frame written around its body: where the body stands already, storing the frame changes only what is before
 -- it.
 use Prim.Native.Nat.{ℕ, zero, suc, ◌+◌, ◌≤◌, ◌<◌}
-use Rattle.std.proofs.Common.{arith, sym, ◌∙◌}
+use Rattle.std.proofs.Common.{Result, Ok, Err, arith, sym, ◌∙◌}
+use Rattle.std.specs.Result.{IsOk}
 use mathlib.Core.List.{List, [], ◌∷◌, ◌++◌, append_assoc, append-nil}
 use Rattle.std.specs.Prelude.{◌≡◌, refl, take, drop}
 use Rattle.std.proofs.Math.Path.{ap}
@@ -9,11 +10,10 @@ use Rattle.std.proofs.Math.ListN.{length, length-append}
 use borrow.Author.Tests.{le-leb, leb-true}
 use Rattle.wire.specs.Bytes.{big_endian_bytes}
 use Rattle.wire.proofs.BytesLaws.{length-big_endian_bytes}
-use Rattle.wire.specs.declared.Written.{Written}
-use Rattle.wire.specs.declared.Written.TheVariants.{To}
-use Rattle.wire.specs.Output.{put, asked, written, output_after, Wrote}
-use Rattle.wire.proofs.OutputLaws.{put-here, wrote_then, wrote_length, wrote_checked, asked-to}
-use Rattle.wire.proofs.StandingLaws.{put_standing, put-over, after_none}
+use Rattle.wire.specs.declared.Refusal.{Refusal}
+use Rattle.wire.specs.Output.{Written, To, said, put, asked, written, output_after, Wrote}
+use Rattle.wire.proofs.OutputLaws.{put-here, wrote_then, wrote_length, asked-to}
+use Rattle.wire.proofs.StandingLaws.{put_standing, put-over}
 use Rattle.wire.proofs.ReaderLaws.{length_part}
 use Rattle.vlq.specs.Vlq.{limit}
 use Rattle.blake2b.specs.Blake2b.{check}
@@ -50,6 +50,13 @@ pub frame_length-body : (n : ℕ) → 0 < n → frame_length n ≡ 13 + n
 unfolding frame_length
 frame_length-body zero h = absurd (omega arith)
 frame_length-body (suc n) h = refl
+
+pub frame_length_empty : (n : ℕ) → n ≤ 0 → frame_length n ≡ 9
+unfolding frame_length
+frame_length_empty zero h = refl
+frame_length_empty (suc n) h = absurd (omega arith)
+
+pub ruleset frame_lengths = (length-head, frame_length-least, frame_length-body, frame_length_empty)
 
 -- a frame whose body has bytes: all before the body, and then the body
 frame_parts : (network : Network) (code : ℕ) (body : List ℕ) → 0 < length body
@@ -96,6 +103,18 @@ pub wrote_empty : (network : Network) (code : ℕ) (out : List ℕ) (at n : ℕ)
 wrote_empty network code out at n {e} {last} z w =
     rw z (rw (frame-empty network code) (rw z at w))
 
+-- where there is room, a frame is closed
+closed-to : (len at n : ℕ) → n ≤ limit → at + frame_length n ≤ len → frame_written_for len at n ≡ To (at + frame_length n)
+unfolding frame_written_for asked
+closed-to len at n small room = rw (le-leb at len (omega arith), le-leb n limit small, le-leb (at + frame_length n) len room)
+
+pub closed-ok : (len at n : ℕ) (r : Result ℕ Refusal) → said r ≡ frame_written_for len at n → n ≤ limit → at + frame_length n ≤ len → IsOk r
+closed-ok len at n (Ok e) says small room = refl
+closed-ok len at n (Err m) says small room =
+    let q : said (Err m) ≡ To (at + frame_length n) = says ∙ closed-to len at n small room in
+    let z : ◌≡◌ {A = ℕ} 0 1 = cc in
+    absurd (omega arith)
+
 -- the body was stored where it stands in the frame
 module _ (network : Network) (code : ℕ) (out : List ℕ) (at : ℕ) (body : List ℕ) {e : ℕ} {mid : List ℕ} (room : at + frame_length (length body) ≤ length out)
     (v : Wrote out (at + 13) body e mid)
@@ -135,30 +154,23 @@ module _ (network : Network) (code : ℕ) (out : List ℕ) (at : ℕ) (body : Li
     -- as the writer of the frame says
     pub closed : {r : Written} {last : List ℕ} → length body ≤ limit → r ≡ frame_written_for (length mid) at (length body)
         → last ≡ output_after r mid at (frame_bytes network code (take (length body) (drop (at + 13) mid))) → last ≡ put out at (frame_bytes network code body)
-    unfolding output_after frame_written_for asked
+    unfolding output_after
     closed {r} {last} small says left =
-        let size : length mid ≡ length out = wrote_length v in
-        let p : r ≡ To (at + frame_length (length body)) =
-        says ∙ rw (le-leb at (length mid) (omega arith), le-leb (length body) limit small, le-leb (at + frame_length (length body)) (length mid) (omega arith)) in
+        let p : r ≡ To (at + frame_length (length body)) = says ∙ closed-to (length mid) at (length body) small (omega (arith, wrote_length v)) in
         around (rw (p, stands) at left)
 
 -- ---- what the calls say
 
--- a body that has room in its frame was stored there
-pub wrote_body : (out : List ℕ) (at : ℕ) (body : List ℕ) {r : Written} {mid : List ℕ} → at + frame_length (length body) ≤ length out
-    → r ≡ written [] [] out (at + 13) body → mid ≡ output_after r out (at + 13) body → Wrote out (at + 13) body (at + 13 + length body) mid
-wrote_body out at [] {r} {mid} room says left = record { end = refl; bytes = left ∙ after_none r out (at + 13) }
-wrote_body out at (b ∷ bs) room says left =
-    wrote_checked [] [] out (at + 13) (b ∷ bs) says left tt tt (omega (arith, frame_length-body (length (b ∷ bs)) (omega arith)))
-
--- what is said by sizes is what the writer of a frame says
-pub said-frame : (network : Network) (code : ℕ) (body out : List ℕ) (at : ℕ) → frame_written_for (length out) at (length body) ≡ frame_written network code body out at
+-- what the writer of a frame says is what is said by sizes
+pub said-frame : (network : Network) (code : ℕ) (body out : List ℕ) (at : ℕ) → frame_written network code body out at ≡ frame_written_for (length out) at (length body)
 unfolding frame_written_for frame_written written
 said-frame network code body out at = rw (length-frame network code body)
 
 -- a writer of a frame accepted: its body is within the limit, and the frame has room
-pub asked-frame : (len at n : ℕ) {r : Written} {e : ℕ} → r ≡ frame_written_for len at n → r ≡ To e → (n ≤ limit) × (at + frame_length n ≤ len)
+pub asked-frame : (len at n : ℕ) {e : ℕ} → To e ≡ frame_written_for len at n → (n ≤ limit) × (at + frame_length n ≤ len)
 unfolding frame_written_for
-asked-frame len at n {r} {e} says p =
-    let h = (asked-to _ (To (at + frame_length n)) e (sym says ∙ p)).0 in
+asked-frame len at n {e} says =
+    let h = (asked-to _ (To (at + frame_length n)) e (sym says)).0 in
     (leb-true n limit h.1.0, leb-true (at + frame_length n) len h.1.1.0)
+
+pub ruleset frame_asked = (said-frame, asked-frame)

@@ -4,7 +4,7 @@
 #![tactic(auto)]
 
 ghost use Rattle.std.specs.Prelude.{◌≡◌, ◌+◌, ◌≤◌, length, take, drop};
-ghost use Rattle.wire.specs.Output.{output_after, Wrote};
+ghost use Rattle.wire.specs.Output.{said, output_after, Wrote};
 ghost use Rattle.vlq.specs.Vlq.{limit};
 ghost use Rattle.frame.specs.Frame.{frame_bytes};
 ghost use Rattle.frame.specs.Writes.{frame_written};
@@ -13,51 +13,61 @@ ghost use Rattle.frame_write.specs.FrameWriteLaws.{header_bytes};
 
 use frame::{HEADER_SIZE, MIN_HEADER_SIZE};
 use types::Network;
-use wire::{MAX_BODY_SIZE, Written};
-use wire_numbers::big_endian_bytes_4;
+use wire::{MAX_BODY_SIZE, Refusal};
+use wire_numbers::big_endian_bytes;
+use wire_output::ask_room;
+use wire_part_write::write_part;
 
 // A frame with this code and body.
-pub fn encode(out: &mut [u8], at: usize, network: Network, code: u8, body: &[u8]) -> Written
-    ensures value { result ≡ frame_written network code body.now out.old at }
-    ensures out_after { out.new ≡ output_after result out.old at (frame_bytes network code body.now) }
+#[tactic(auto, using(crate::specs::FrameWriteLaws::frame_asked), unfolding(wire::specs::Output::output_after))]
+pub fn encode(
+    out: &mut [u8],
+    at: usize,
+    network: Network,
+    code: u8,
+    body: &[u8],
+) -> Result<usize, Refusal>
+    ensures value { said result ≡ frame_written network code body.now out.old at }
+    ensures out_after { out.new ≡ output_after (said result) out.old at (frame_bytes network code body.now) }
 {
-    let answer = ask_frame(out.len(), at, body.len());
-    if let Written::To(_) = answer {
-        put_body(out, at, network, code, body);
-    }
-    answer
+    let end = ask_frame(out.len(), at, body.len())?;
+    put_body(out, at, network, code, body);
+    Ok(end)
 }
 
 // A frame with this code whose n body bytes stand in the output already, 13 bytes after the place.
-pub fn close_frame(out: &mut [u8], at: usize, network: Network, code: u8, n: usize) -> Written
-    ensures value { result ≡ frame_written_for (length out.old) at n }
-    ensures out_after { out.new ≡ output_after result out.old at (frame_bytes network code (take n (drop (at + 13) out.old))) }
+#[tactic(auto, using(crate::specs::FrameWriteLaws::frame_asked), unfolding(wire::specs::Output::output_after))]
+pub fn close_frame(
+    out: &mut [u8],
+    at: usize,
+    network: Network,
+    code: u8,
+    n: usize,
+) -> Result<usize, Refusal>
+    ensures value { said result ≡ frame_written_for (length out.old) at n }
+    ensures out_after { out.new ≡ output_after (said result) out.old at (frame_bytes network code (take n (drop (at + 13) out.old))) }
 {
-    let answer = ask_frame(out.len(), at, n);
-    if let Written::To(_) = answer {
-        put_frame(out, at, network, code, n);
-    }
-    answer
+    let end = ask_frame(out.len(), at, n)?;
+    put_frame(out, at, network, code, n);
+    Ok(end)
 }
 
 // What a writer of a frame with a body of n bytes says of an output of len bytes.
-pub fn ask_frame(len: usize, at: usize, n: usize) -> Written
-    ensures { result ≡ frame_written_for len at n }
+#[tactic(auto, unfolding(wire::specs::Output::asked, crate::specs::Asked::frame_written_for))]
+pub fn ask_frame(len: usize, at: usize, n: usize) -> Result<usize, Refusal>
+    ensures { said result ≡ frame_written_for len at n }
 {
     if len < at {
-        return Written::Refused(12);
+        return Err(Refusal::Outside);
     }
     if MAX_BODY_SIZE < n {
-        return Written::Refused(7);
+        return Err(Refusal::BodyTooLarge);
     }
-    let size = frame_len(n);
-    if len - at < size {
-        return Written::Refused(14);
-    }
-    Written::To(at + size)
+    ask_room(len, at, frame_len(n))
 }
 
 // How many bytes a frame with a body of n bytes has.
+#[tactic(auto, using(crate::specs::FrameWriteLaws::frame_lengths))]
 fn frame_len(n: usize) -> usize
     requires { n ≤ limit }
     ensures { result ≡ frame_length n }
@@ -70,16 +80,20 @@ fn frame_len(n: usize) -> usize
 }
 
 // Stores a frame and gives the place after it.
+#[tactic(auto, using(crate::specs::FrameWriteLaws::frame_lengths))]
 fn put_body(out: &mut [u8], at: usize, network: Network, code: u8, body: &[u8]) -> usize
     requires body_len_bound { length body.now ≤ limit }
     requires body_in_bounds { at + frame_length (length body.now) ≤ length out.old }
     ensures { Wrote out.old at (frame_bytes network code body.now) result out.new }
 {
-    wire_part_write::write_part(out, at + HEADER_SIZE, body);
+    if !body.is_empty() {
+        write_part(out, at + HEADER_SIZE, body).unwrap();
+    }
     put_frame(out, at, network, code, body.len())
 }
 
 // Stores what a frame has before its body of n bytes, which stands there already, and gives the place after the frame.
+#[tactic(auto, using(crate::specs::FrameWriteLaws::frame_lengths))]
 fn put_frame(out: &mut [u8], at: usize, network: Network, code: u8, n: usize) -> usize
     requires n_le_limit { n ≤ limit }
     requires n_in_bounds { at + frame_length n ≤ length out.old }
@@ -91,7 +105,7 @@ fn put_frame(out: &mut [u8], at: usize, network: Network, code: u8, n: usize) ->
     let start = at + HEADER_SIZE;
     let check = blake2b_hash::check(&out[start..start + n]);
     let end = put_head(out, at, network, code, n);
-    put_four(out, end, check) + n
+    write_part(out, end, &check).unwrap() + n
 }
 
 // Stores magic, code and the body length n, and gives the place after them.
@@ -100,20 +114,7 @@ fn put_head(out: &mut [u8], at: usize, network: Network, code: u8, n: usize) -> 
     requires at_in_bounds { at + 9 ≤ length out.old }
     ensures { Wrote out.old at (header_bytes network code n) result out.new }
 {
-    let magic = network.magic();
-    let end = put_four(out, at, magic);
+    let end = write_part(out, at, &network.magic()).unwrap();
     out[end] = code;
-    put_four(out, end + 1, big_endian_bytes_4(n as u32))
-}
-
-// Stores four bytes and gives the place after them.
-fn put_four(out: &mut [u8], at: usize, four: [u8; 4]) -> usize
-    requires { at + 4 ≤ length out.old }
-    ensures { Wrote out.old at four result out.new }
-{
-    out[at] = four[0];
-    out[at + 1] = four[1];
-    out[at + 2] = four[2];
-    out[at + 3] = four[3];
-    at + 4
+    write_part(out, end + 1, &big_endian_bytes::<4>(n as u64)).unwrap()
 }

@@ -6,9 +6,7 @@ use Rattle.std.specs.Prelude.{ℕ, ◌-◌, ◌*◌, true, false, ◌≡◌, ref
 use mathlib.Core.List.{List, [], ◌∷◌, ◌++◌, map, flat_map}
 use Rattle.std.proofs.Common.{length-take}
 use Rattle.wire.specs.Bytes.{big_endian_from, big_endian, big_endian_bytes, every}
-use Rattle.wire.specs.Output.{asked, written}
-use Rattle.wire.specs.declared.Written.{Written}
-use Rattle.wire.specs.declared.Written.TheVariants.{To, Refused}
+use Rattle.wire.specs.Output.{asked, written, Written, To, Refused}
 use Rattle.vlq_utf8.specs.Utf8 as Utf8
 use Rattle.vlq_utf8.specs.Utf8.{lead_in, lead_of, utf8_from, utf8}
 use Rattle.vlq.specs.Vlq.{vlq_in, vlq_bytes}

@@ -2,10 +2,9 @@
 use Rattle.std.specs.Prelude.{ℕ, ◌^◌, ◌<◌, true, List, [], ◌∷◌, ◌≡◌}
 use Rattle.wire.specs.Bytes.{every, Each, none, more}
 use Rattle.wire.proofs.BytesLaws.{is_byte}
-use Rattle.wire.specs.Output.{Question}
+use Rattle.wire.specs.Output.{Question, To}
 use Rattle.wire.proofs.OutputLaws.{AllHold, written-accepted}
 use Rattle.wire.specs.ReadsBack.{ReadsBack}
-use Rattle.wire.specs.declared.Written.TheVariants.{To}
 use Rattle.handshake.specs.Entry.{handshake}
 use Rattle.handshake.specs.Value.{AddressTyped, handshake_value, handshake_bytes}
 use Rattle.handshake.proofs.ValueLaws.{reads-handshake, Holds, asked_writable_one}

@@ -1,7 +1,6 @@
 -- The writers of entries and handshakes: what each says, and the bytes it writes.
 use Rattle.std.specs.Prelude.{ℕ, ◌/◌, Bool, cond, ◌&&◌, List, [], ◌∷◌, ◌++◌, ltb, ℤ, length}
-use Rattle.wire.specs.Output.{Question, ask, written}
-use Rattle.wire.specs.declared.Written.{Written}
+use Rattle.wire.specs.Output.{Question, ask, written, Written}
 use Rattle.vlq.specs.Vlq.{vlq_bytes}
 use Rattle.vlq_zigzag.specs.Zigzag.{zigzag_encode}
 use Rattle.types.specs.declared.Network.{Network}

@@ -1,5 +1,5 @@
-// Entries and handshakes: their definitions and laws, in specs/. Readers stand in handshake_address_read, handshake_read and
-// handshake_verdict, writers in handshake_entry_write, handshake_write and handshake_build.
+// Entries and handshakes: their definitions and laws, in specs/. Readers stand in handshake_address_read,
+// handshake_read and handshake_verdict, writers in handshake_entry_write, handshake_write and handshake_build.
 #![tactic(auto)]
 
 // Ids of features.
@@ -28,16 +28,17 @@ pub const ENTRY_ROW_SIZE: usize = 12;
 // A writer gets lists as tables of u32 beside a lent buffer; these are the rows.
 
 // A feature: its id, and the place and length of its body in the buffer.
-#[derive(Clone, Copy)]
+#[derive(Clone, Copy, Default)]
 pub struct FeatureRow {
     pub id: u32,
     pub at: u32,
     pub len: u32,
 }
 
-// An entry: the place and length of its agent, three version numbers, the place and length of its name, the address length byte L
-// (0: none, its place unread), the place of its L - 4 bytes, the port, the first row of its features and their number.
-#[derive(Clone, Copy)]
+// An entry: the place and length of its agent, three version numbers, the place and length of its name, the address
+// length byte L (0: none, its place unread), the place of its L - 4 bytes, the port, the first row of its features
+// and their number.
+#[derive(Clone, Copy, Default)]
 pub struct EntryRow {
     pub agentat: u32,
     pub agentlen: u32,

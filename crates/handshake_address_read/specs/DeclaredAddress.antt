@@ -1,4 +1,4 @@
--- The declared address of an entry, which the code reads as one part of its head.
+-- The declared address of an entry, which the code reads by a function of its own.
 use Rattle.wire.specs.Reader.{Reader, and_then, byte}
 use Rattle.types.specs.declared.Address.{Address}
 use Rattle.handshake.specs.Entry.{address_if}

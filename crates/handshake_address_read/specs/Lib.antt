@@ -1,2 +1,1 @@
 pub mod DeclaredAddress
-pub mod Answers

@@ -4,52 +4,32 @@
 ghost use Rattle.std.specs.Prelude.{◌≡◌, ◌+◌, ◌-◌, ◌≤◌, length, take, drop};
 ghost use Rattle.handshake.specs.Entry.{address_of, address};
 ghost use Rattle.handshake_address_read.specs.DeclaredAddress.{declared_address};
-ghost use Rattle.handshake_address_read.specs.Answers.{address_answer};
+ghost use Rattle.vlq.specs.Answers.{read_answer};
 
 use handshake::{IPV4_LENGTH, IPV6_LENGTH, PORT_COUNT};
 use types::Address;
-use vlq::{ByteRead, Cursor, PartRead, VlqRead};
-use wire_numbers::{big_endian_4, big_endian_8};
-
-#[derive(Clone, Copy)]
-pub enum AddressRead {
-    Value(Address, Cursor),
-    Refused(u8),
-}
+use vlq::{Cursor, Read};
+use wire_numbers::big_endian;
 
 // An address flag byte, and an address if it isn't 0.
-pub fn read_declared_address(s: &[u8], c: Cursor) -> AddressRead
-    ensures { address_answer result ≡ declared_address s.now c.at }
+pub fn read_declared_address(s: &[u8], c: Cursor) -> Read<Address>
+    ensures { read_answer result ≡ declared_address s.now c.at }
 {
-    match c.read_byte(s) {
-        ByteRead::Value(flag, d) => {
-            if flag == 0 {
-                AddressRead::Value(Address::None, d)
-            } else {
-                read_address(s, d)
-            }
-        }
-        ByteRead::Refused(m) => AddressRead::Refused(m),
+    let (flag, d) = c.read_byte(s)?;
+    if flag == 0 {
+        return Ok((Address::None, d));
     }
+    read_address(s, d)
 }
 
 // A length byte, four bytes fewer, and a port.
-fn read_address(s: &[u8], c: Cursor) -> AddressRead
-    ensures { address_answer result ≡ address s.now c.at }
+fn read_address(s: &[u8], c: Cursor) -> Read<Address>
+    ensures { read_answer result ≡ address s.now c.at }
 {
-    match c.read_byte(s) {
-        ByteRead::Value(l, d) => match d.read_part(s, minus_four(l)) {
-            PartRead::Value(bytes, e) => match e.read_vlq(s) {
-                VlqRead::Value(port, f) => {
-                    let a = address_of(s, l, bytes.start, (port % PORT_COUNT) as u16);
-                    AddressRead::Value(a, f)
-                }
-                VlqRead::Refused(m) => AddressRead::Refused(m),
-            },
-            PartRead::Refused(m) => AddressRead::Refused(m),
-        },
-        ByteRead::Refused(m) => AddressRead::Refused(m),
-    }
+    let (l, d) = c.read_byte(s)?;
+    let (bytes, e) = d.read_part(s, minus_four(l))?;
+    let (port, f) = e.read_vlq(s)?;
+    Ok((address_of(s, l, bytes.start, (port % PORT_COUNT) as u16), f))
 }
 
 // Four less, or 0.
@@ -65,11 +45,11 @@ fn address_of(s: &[u8], l: u8, at: usize, port: u16) -> Address
     ensures { result ≡ address_of l (take (l - 4) (drop at s.now)) port }
 {
     if l == IPV4_LENGTH {
-        return Address::V4(big_endian_4(&s[at..at + 4]), port);
+        return Address::V4(big_endian::<4>(&s[at..at + 4]) as u32, port);
     }
     if l == IPV6_LENGTH {
-        let high = big_endian_8(&s[at..at + 8]);
-        let low = big_endian_8(&s[at + 8..at + 16]);
+        let high = big_endian::<8>(&s[at..at + 8]);
+        let low = big_endian::<8>(&s[at + 8..at + 16]);
         return Address::V6(high, low, port);
     }
     Address::None

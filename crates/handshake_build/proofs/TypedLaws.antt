@@ -22,5 +22,5 @@ address-typed (V6 high low port) vs p =
 
 pub config-typed : (c : Config) (vs : List Val) → Is config.the_row c vs → (c.timestamp < 2 ^ 64) × AddressTyped c.address
 config-typed c vs p =
-    let f = p.1.1.1.1.1.1.1.1 in
+    let f = p.1.1.1.1.1 in
     (f.1.0.1, address-typed c.address _ f.0)

@@ -1,7 +1,6 @@
 -- What `build` is given, and the parts that it is put together from.
 use Rattle.std.specs.Prelude.{ℕ, ◌≤◌, true, List, [], ◌∷◌, ◌++◌, ◌≡◌, length}
-use Rattle.wire.specs.Output.{sized}
-use Rattle.wire.specs.declared.Size.{Size}
+use Rattle.wire.specs.Output.{sized, Size}
 use Rattle.vlq_utf8.specs.Utf8.{utf8}
 use Rattle.vlq.specs.Vlq.{vlq_bytes}
 use Rattle.vlq.specs.ShortString.{max_short_string, short_string_bytes}
@@ -16,10 +15,10 @@ abbrev pub config_of : Config → List ℕ → List ℕ → writes.Config
 config_of c agent name =
     record {
       network = c.network;
-      mode = c.mode;
-      state_type = c.state_type_id;
-      verifying = c.verifying;
-      blocks_to_keep = c.blocks_to_keep;
+      mode = c.mode.proxy;
+      state_type = c.mode.state_type_id;
+      verifying = c.mode.verifying;
+      blocks_to_keep = c.mode.blocks_to_keep;
       agent = agent;
       version = c.version;
       name = name;
@@ -47,7 +46,7 @@ before_address_bytes c agent name = vlq_bytes c.timestamp ++ (short_string_bytes
 
 -- the two features
 unfoldable pub mode_feature_bytes : Config → List ℕ
-mode_feature_bytes c = feature_bytes (mode_feature_of c.mode c.state_type_id c.verifying c.blocks_to_keep)
+mode_feature_bytes c = feature_bytes (mode_feature_of c.mode)
 
 unfoldable pub session_feature_bytes : Config → List ℕ
 session_feature_bytes c = feature_bytes (session_feature_of c.network c.session)

@@ -1,23 +1,19 @@
--- What is said of entries before they are written (document 01, "Questions", Writers): how many bytes they are written as, or the number of the
--- first question answered "no".
+-- What is said of entries before they are written (document 01, "Questions", Writers): how many bytes they are
+-- written as, or the number of the first question answered "no".
 use Rattle.std.specs.Prelude.{ℕ, ◌+◌, min, cond, leb, length}
 use mathlib.Core.List.{List, [], ◌∷◌, ◌++◌, map, flat_map}
 use Rattle.wire.specs.Bytes.{every}
-use Rattle.wire.specs.Output.{Question, ask, sized}
-use Rattle.wire.specs.declared.Size.{Size}
-use Rattle.wire.specs.declared.Size.TheVariants.{Bytes, Refused}
+use Rattle.wire.specs.Output.{Question, ask, sized, Size, Bytes, Unsized as Refused}
 use Rattle.vlq.specs.Vlq.{limit}
 use Rattle.vlq.specs.ShortString.{short_string_bytes}
 use Rattle.handshake.specs.declared.EntryRow.{EntryRow}
 use Rattle.handshake.specs.Value.{entry_bytes, entries_asked}
-use Rattle.handshake.specs.Tables.{Tables, tables, entry_rows, bytes_at, entry_from_row, entries_of, tables_whole, entry_inside}
+use Rattle.handshake.specs.Tables.{Tables, entry_rows, bytes_at, entry_from_row, entries_of, tables_whole, entry_inside}
 use Rattle.handshake.specs.Writes.{entry_at_row, row_asked}
 
 -- of the entry of a row, after 16
-unfoldable pub row_size : List ℕ → List ℕ → EntryRow → Size
-row_size features buffer r =
-    let l = tables [] features buffer in
-    sized (ask 12 (entry_inside l r) ∷ entries_asked (entry_from_row l r ∷ [])) (length (entry_bytes (entry_from_row l r)))
+unfoldable pub row_size : Tables → EntryRow → Size
+row_size l r = sized (ask 12 (entry_inside l r) ∷ entries_asked (entry_from_row l r ∷ [])) (length (entry_bytes (entry_from_row l r)))
 
 -- of the entry in row k
 unfoldable pub entry_size : Tables → ℕ → Size

@@ -1,4 +1,5 @@
--- Laws of what is said of one row and of all: the questions of a row, in their order; those of all rows, asked row by row; the body's question.
+-- Laws of what is said of one row and of all: the questions of a row, in their order; those of all rows, asked row by
+-- row; the body's question.
 use Rattle.std.specs.Prelude.{ℕ, ◌+◌, ◌/◌, ◌≤◌, ◌<◌, min, Bool, true, false, cond, ◌&&◌, ◌≡◌, refl, leb, length}
 use Rattle.std.proofs.Common.{arith, ⊎_elim, sym, ap, ◌∙◌}
 use mathlib.Core.List.{List, [], ◌∷◌, ◌++◌, map, flat_map, append-nil, map-append}
@@ -7,18 +8,15 @@ use borrow.Author.Tests.{lt-ltb, le-ltb, lt-leb}
 use Rattle.wire.specs.Bytes.{every}
 use Rattle.wire.proofs.BytesLaws.{every_append, flat_map_append}
 use Rattle.wire.specs.Numbers.{lt-or_ge}
-use Rattle.wire.specs.Output.{Question, ask, sized}
+use Rattle.wire.specs.Output.{Question, ask, sized, Size, Bytes, Unsized as Refused}
 use Rattle.wire.specs.Earliest.{together, twice, fresh, distinct}
 use Rattle.wire.proofs.EarliestLaws.{earliest}
-use Rattle.wire.specs.declared.Size.{Size}
-use Rattle.wire.specs.declared.Size.TheVariants.{Bytes, Refused}
 use Rattle.vlq.specs.Vlq.{limit}
 use Rattle.handshake.specs.declared.EntryRow.{EntryRow}
 use Rattle.handshake.specs.Value.{entry_bytes, short_strings, utf8_strings, few_features, lengths_within, entries_asked}
 use Rattle.handshake.specs.Tables.{Tables, rows, entry_row, entry_rows, entry_from_row, entries_of, tables_whole, entry_inside}
 use Rattle.handshake.proofs.RowsLaws.{rows_last}
 use Rattle.handshake.specs.Writes.{row_inside}
-use Rattle.handshake_entry_rows.specs.ValueLaws.{own-entry, own-inside}
 use Rattle.handshake_entry_ask.specs.Asked.{row_size, entry_size, entries_size, size_of, row_numbers, counted_to_limit, body_size}
 
 pub and_right : (b : Bool) → b && true ≡ b
@@ -37,19 +35,17 @@ module _ (l : Tables) (k : ℕ) where
     unfolding entry_size row_inside sized
     entry-outside h = rw (e, le-ltb k (length l.entries / 12) h)
 
-    pub entry_row_lem : k < length l.entries / 12 → row_size l.features l.buffer (entry_row l.entries k) ≡ entry_size l k
+    pub entry_row_lem : k < length l.entries / 12 → row_size l (entry_row l.entries k) ≡ entry_size l k
     unfolding entry_size row_size row_inside sized
-    entry_row_lem h =
-        let r = entry_row l.entries k in
-        rw (e, lt-ltb k (length l.entries / 12) h, own-inside l r, own-entry l r)
+    entry_row_lem h = rw (e, lt-ltb k (length l.entries / 12) h)
 
 -- ---- rows one after the other
 
 module _ (l : Tables) where
   -- one row
-  one-row : (r : EntryRow) → row_size l.features l.buffer r ≡ size_of l (r ∷ [])
+  one-row : (r : EntryRow) → row_size l r ≡ size_of l (r ∷ [])
   unfolding row_size size_of every flat_map
-  one-row r = rw (own-inside l r, own-entry l r, and_right (entry_inside l r), append-nil (entry_bytes (entry_from_row l r)))
+  one-row r = rw (and_right (entry_inside l r), append-nil (entry_bytes (entry_from_row l r)))
 
   -- the first question that one of them fails is the first that all of them are asked and fail
   rows_then : (a b : List EntryRow) → size_of l (a ++ b) ≡ together row_numbers (size_of l a) (size_of l b)
@@ -92,7 +88,7 @@ unfolding counted_to_limit size_of rows entries_asked sized every flat_map
 size-start l = record { same = refl }
 
 module _ {l : Tables} {k : ℕ} {s : Size} (inv : SizeSoFar l k s) where
-  pub size-turn : {own r : Size} → own ≡ row_size l.features l.buffer (entry_row l.entries k) → r ≡ counted_to_limit (together row_numbers s own) → SizeSoFar l (k + 1) r
+  pub size-turn : {own r : Size} → own ≡ row_size l (entry_row l.entries k) → r ≡ counted_to_limit (together row_numbers s own) → SizeSoFar l (k + 1) r
   size-turn {own} {r} e1 e2 =
       let f = entry_row l.entries in
       record {

@@ -13,7 +13,7 @@ use Rattle.handshake.specs.declared.FeatureRow.{FeatureRow}
 use Rattle.handshake.specs.declared.EntryRow.{EntryRow}
 use Rattle.handshake.specs.Entry.{address_of}
 use Rattle.handshake.specs.Value.{feature_bytes, version_bytes, address_bytes, entry_bytes, lengths_within}
-use Rattle.handshake.specs.Tables.{Tables, tables, rows, feature_row, own_rows, bytes_at, feature_from_row, entry_from_row}
+use Rattle.handshake.specs.Tables.{Tables, rows, feature_row, own_rows, bytes_at, feature_from_row, entry_from_row}
 use Rattle.handshake.proofs.RowsLaws.{length-rows, rows-from}
 use Rattle.handshake_entry_ask.specs.Asked.{head_bytes}
 
@@ -58,12 +58,12 @@ length-feature buffer f =
 unfoldable pub body_within : List ℕ → FeatureRow → Bool
 body_within buffer f = leb (length (bytes_at buffer f.at f.len)) limit
 
-pub within-rows : (features buffer : List ℕ) (r : EntryRow)
-    → lengths_within (entry_from_row (tables [] features buffer) r) ≡ every (body_within buffer) (rows (λ i. feature_row features (r.first + i)) 0 r.count)
+pub within-rows : (l : Tables) (r : EntryRow)
+    → lengths_within (entry_from_row l r) ≡ every (body_within l.buffer) (rows (λ i. feature_row l.features (r.first + i)) 0 r.count)
 unfolding lengths_within entry_from_row feature_from_row body_within
-within-rows features buffer r =
-    every_map (λ f. leb (length f.body) limit) (feature_from_row buffer) (rows (feature_row features) r.first r.count)
-    ∙ ap (every (body_within buffer)) (sym (rows-from (feature_row features) r.first r.count))
+within-rows l r =
+    every_map (λ f. leb (length f.body) limit) (feature_from_row l.buffer) (own_rows l r)
+    ∙ ap (every (body_within l.buffer)) (sym (rows-from (feature_row l.features) r.first r.count))
 
 -- the bytes of an entry: its head, its address, its features
 module _ (l : Tables) (r : EntryRow) where

@@ -1,114 +1,104 @@
-// What is asked of entries before they are written from a table of rows beside a lent buffer (document 01, "Questions", Writers): how many bytes
-// they are written as, or the number of the first question answered "no".
+// What is asked of entries before they are written from a table of rows beside a lent buffer (document 01,
+// "Questions", Writers): how many bytes they are written as, or the first question answered "no".
 #![tactic(auto)]
 
-ghost use Rattle.std.specs.Prelude.{◌||◌, true, ◌≡◌, ℕ, ◌+◌, ◌-◌, ◌/◌, ◌≤◌, min, eqb, leb, length};
+ghost use Rattle.std.specs.Prelude.{◌≡◌, ℕ, ◌+◌, ◌/◌, ◌≤◌, min, leb, length};
 ghost use mathlib.Core.List.{List, [], ◌∷◌, map, flat_map};
 ghost use Rattle.wire.specs.Bytes.{every};
-ghost use Rattle.wire.specs.Output.{ask, sized};
+ghost use Rattle.wire.specs.Refusals.{number};
+ghost use Rattle.wire.specs.Output.{ask, sized, Bytes, size_said};
 ghost use Rattle.wire.specs.Earliest.{position, earlier, together};
 ghost use Rattle.vlq.specs.Vlq.{limit, vlq_bytes};
 ghost use Rattle.handshake.specs.Entry.{address_of};
 ghost use Rattle.handshake.specs.Value.{address_bytes, feature_bytes, short_strings, utf8_strings, lengths_within};
-ghost use Rattle.handshake.specs.Tables.{tables, rows, feature_row, entry_rows, bytes_at, feature_from_row, entry_from_row, feature_inside, entry_inside};
+ghost use Rattle.handshake.specs.Tables.{own_rows, entry_rows, feature_from_row, entry_from_row, feature_inside, entry_inside};
+ghost use Rattle.handshake_entry_rows.specs.Row.{tables_of};
 ghost use Rattle.handshake_entry_ask.specs.Asked.{row_size, entry_size, entries_size, size_of, row_numbers, counted_to_limit, body_size};
 
-use handshake::{
-    ENTRY_ROW_SIZE, EntryRow, FEATURE_ROW_SIZE, IPV4_LENGTH, IPV6_LENGTH, MAX_FEATURES,
-};
-use handshake_entry_rows::{address_size, entry_at, tables_whole};
+use handshake::{EntryRow, IPV4_LENGTH, IPV6_LENGTH, MAX_FEATURES};
+use handshake_entry_rows::{Tables, address_size};
 use vlq::MAX_SHORT_STRING;
+use vlq_utf8::is_utf8;
 use vlq_write::vlq_len;
-use wire::{MAX_BODY_SIZE, Size};
+use wire::{MAX_BODY_SIZE, Refusal};
 
 // Of the entry in row k. 16 is asked of every row of both tables.
-pub fn ask_entry(entries: &[u32], features: &[u32], buffer: &[u8], k: usize) -> Size
-    ensures { result ≡ entry_size (tables entries.now features.now buffer.now) k }
+pub fn ask_entry(t: Tables, k: usize) -> Result<usize, Refusal>
+    ensures { size_said result ≡ entry_size (tables_of t.entry) k }
 {
-    if !tables_whole(entries, features) {
-        return Size::Refused(16);
+    if !t.is_whole() {
+        return Err(Refusal::BadTable);
     }
-    if entries.len() / ENTRY_ROW_SIZE <= k {
-        return Size::Refused(12);
+    if t.entry_count() <= k {
+        return Err(Refusal::Outside);
     }
-    ask_row(features, buffer, entry_at(entries, k))
+    ask_row(t, t.entry_at(k))
 }
 
-// Of all entries of the table, the end of a body that has `before` bytes before them: each question over all rows before the next.
-pub fn ask_entries(before: usize, entries: &[u32], features: &[u32], buffer: &[u8]) -> Size
-    ensures { result ≡ entries_size (tables entries.now features.now buffer.now) before }
+// Of all entries of the table, the end of a body that has `before` bytes before them: each question over all rows
+// before the next.
+pub fn ask_entries(before: usize, t: Tables) -> Result<usize, Refusal>
+    ensures { size_said result ≡ entries_size (tables_of t.entry) before }
 {
-    if !tables_whole(entries, features) {
-        return Size::Refused(16);
+    if !t.is_whole() {
+        return Err(Refusal::BadTable);
     }
-    ask_body(before, ask_rows(entries, features, buffer))
+    ask_body(before, ask_rows(t)?)
 }
 
 // Of the entry of a row, after 16.
-pub fn ask_row(features: &[u32], buffer: &[u8], e: EntryRow) -> Size
-    ensures { result ≡ row_size features.now buffer.now e }
+pub fn ask_row(t: Tables, e: EntryRow) -> Result<usize, Refusal>
+    ensures { size_said result ≡ row_size (tables_of t.entry) e }
 {
-    if !row_inside(features, buffer, e) {
-        return Size::Refused(12);
+    if !row_inside(t, e) {
+        return Err(Refusal::Outside);
     }
-    if !strings_short(buffer, e) {
-        return Size::Refused(13);
+    if !strings_short(t, e) {
+        return Err(Refusal::StringTooLong);
     }
-    if !strings_utf8(buffer, e) {
-        return Size::Refused(4);
+    if !strings_utf8(t, e) {
+        return Err(Refusal::InvalidUtf8);
     }
     if MAX_FEATURES < e.count as usize {
-        return Size::Refused(15);
+        return Err(Refusal::InvalidInput);
     }
     let before = 6 + e.agentlen as usize + e.namelen as usize + address_len(e);
-    features_size(before, features, buffer, e)
+    features_size(before, t, e)
 }
 
-// Adds the body's question to the size of its end.
-fn ask_body(before: usize, size: Size) -> Size
-    ensures { result ≡ body_size before size }
+// The body's question, of n bytes behind `before` others.
+#[tactic(auto, using(std::proofs::lemmas::Bool::Decides::nat_tests), unfolding(crate::specs::Asked::body_size))]
+fn ask_body(before: usize, n: usize) -> Result<usize, Refusal>
+    ensures { size_said result ≡ body_size before (Bytes n) }
 {
-    match size {
-        Size::Bytes(n) => {
-            if MAX_BODY_SIZE < n {
-                return Size::Refused(7);
-            }
-            if MAX_BODY_SIZE - n < before {
-                return Size::Refused(7);
-            }
-            Size::Bytes(n)
-        }
-        Size::Refused(m) => Size::Refused(m),
+    if n <= MAX_BODY_SIZE && before <= MAX_BODY_SIZE - n {
+        Ok(n)
+    } else {
+        Err(Refusal::BodyTooLarge)
     }
 }
 
 // Of all rows after 16, their bytes counted up to MAX_BODY_SIZE + 1.
-fn ask_rows(entries: &[u32], features: &[u32], buffer: &[u8]) -> Size
-    ensures { result ≡ counted_to_limit (size_of (tables entries.now features.now buffer.now) (entry_rows (tables entries.now features.now buffer.now))) }
+fn ask_rows(t: Tables) -> Result<usize, Refusal>
+    ensures { size_said result ≡ counted_to_limit (size_of (tables_of t.entry) (entry_rows (tables_of t.entry))) }
 {
-    let n = entries.len() / ENTRY_ROW_SIZE;
-    let mut size = Size::Bytes(0);
-    let mut k: usize = 0;
-    while k < n {
-        size = add_row(size, ask_row(features, buffer, entry_at(entries, k)));
-        k += 1;
+    let mut size = Ok(0);
+    for k in 0..t.entry_count() {
+        size = add_row(size, ask_row(t, t.entry_at(k)));
     }
     size
 }
 
 // Adds what is said of a row to what is said of the rows before it.
-fn add_row(size: Size, own: Size) -> Size
-    ensures { result ≡ counted_to_limit (together row_numbers size own) }
+#[tactic(auto, unfolding(wire::specs::Earliest::together, crate::specs::Asked::counted_to_limit))]
+fn add_row(size: Result<usize, Refusal>, own: Result<usize, Refusal>) -> Result<usize, Refusal>
+    ensures { size_said result ≡ counted_to_limit (together row_numbers (size_said size) (size_said own)) }
 {
-    match size {
-        Size::Bytes(m) => match own {
-            Size::Bytes(n) => Size::Bytes(add_bytes(m, n)),
-            Size::Refused(q) => Size::Refused(q),
-        },
-        Size::Refused(p) => match own {
-            Size::Bytes(_) => Size::Refused(p),
-            Size::Refused(q) => Size::Refused(first_of(p, q)),
-        },
+    match (size, own) {
+        (Ok(m), Ok(n)) => Ok(add_bytes(m, n)),
+        (Ok(_), Err(q)) => Err(q),
+        (Err(p), Ok(_)) => Err(p),
+        (Err(p), Err(q)) => Err(first_of(p, q)),
     }
 }
 
@@ -116,18 +106,13 @@ fn add_row(size: Size, own: Size) -> Size
 fn add_bytes(m: usize, n: usize) -> usize
     ensures { result ≡ min (m + n) (limit + 1) }
 {
-    if MAX_BODY_SIZE < m {
-        return MAX_BODY_SIZE + 1;
-    }
-    if MAX_BODY_SIZE - m < n {
-        return MAX_BODY_SIZE + 1;
-    }
-    m + n
+    m.saturating_add(n).min(MAX_BODY_SIZE + 1)
 }
 
 // Of two refusals the one whose question comes first in 01's order, whichever row fails it.
-fn first_of(p: u8, q: u8) -> u8
-    ensures { result ≡ earlier row_numbers p q }
+#[tactic(auto, using(std::proofs::lemmas::Bool::Decides::nat_tests), unfolding(wire::specs::Earliest::earlier))]
+fn first_of(p: Refusal, q: Refusal) -> Refusal
+    ensures { number result ≡ earlier row_numbers (number p) (number q) }
 {
     if place_in_order(q) < place_in_order(p) {
         q
@@ -136,46 +121,31 @@ fn first_of(p: u8, q: u8) -> u8
     }
 }
 
-fn place_in_order(number: u8) -> u8
-    ensures { result ≡ position row_numbers number }
+#[tactic(auto, using(std::proofs::lemmas::Bool::Decides::nat_tests), unfolding(wire::specs::Earliest::position))]
+fn place_in_order(refusal: Refusal) -> u8
+    ensures { result ≡ position row_numbers (number refusal) }
 {
-    match number {
-        12 => 0,
-        13 => 1,
-        4 => 2,
-        15 => 3,
-        3 => 4,
+    match refusal {
+        Refusal::Outside => 0,
+        Refusal::StringTooLong => 1,
+        Refusal::InvalidUtf8 => 2,
+        Refusal::InvalidInput => 3,
+        Refusal::LengthTooLarge => 4,
         _ => 5,
     }
 }
 
 // Is each part that a row names inside the buffer, and each feature row inside its table (question 12)?
-fn row_inside(features: &[u32], buffer: &[u8], e: EntryRow) -> bool
-    ensures { result ≡ entry_inside (tables [] features.now buffer.now) e }
+#[tactic(auto, using(std::proofs::lemmas::Bool::Decides::nat_tests), unfolding(handshake::specs::Tables::entry_inside, handshake::specs::Tables::inside))]
+fn row_inside(t: Tables, e: EntryRow) -> bool
+    ensures { result ≡ entry_inside (tables_of t.entry) e }
 {
-    if !is_inside(buffer.len(), e.agentat, e.agentlen) {
-        return false;
-    }
-    if !is_inside(buffer.len(), e.nameat, e.namelen) {
-        return false;
-    }
-    if !address_inside(buffer.len(), e) {
-        return false;
-    }
-    if !is_inside(features.len() / FEATURE_ROW_SIZE, e.first, e.count) {
-        return false;
-    }
-    features_inside(features, buffer, e)
-}
-
-// Is the address, if there is one, inside a buffer of len bytes?
-fn address_inside(len: usize, e: EntryRow) -> bool
-    ensures { result ≡ (eqb e.addrlen 0 || leb (e.addrat + (e.addrlen - 4)) len) }
-{
-    if e.addrlen == 0 {
-        return true;
-    }
-    is_inside(len, e.addrat, address_size(e.addrlen))
+    let len = t.buffer.len();
+    is_inside(len, e.agentat, e.agentlen)
+        && is_inside(len, e.nameat, e.namelen)
+        && (e.addrlen == 0 || is_inside(len, e.addrat, address_size(e.addrlen)))
+        && is_inside(t.feature_count(), e.first, e.count)
+        && features_inside(t, e)
 }
 
 // Are n of len from a place on?
@@ -186,45 +156,32 @@ fn is_inside(len: usize, at: u32, n: u32) -> bool
 }
 
 // Is the body of each feature inside?
-fn features_inside(features: &[u32], buffer: &[u8], e: EntryRow) -> bool
-    requires { e.first + e.count ≤ length features.now / 3 }
-    ensures { result ≡ every (feature_inside buffer.now) (rows (feature_row features.now) e.first e.count) }
+fn features_inside(t: Tables, e: EntryRow) -> bool
+    requires { e.first + e.count ≤ length t.features.now / 3 }
+    ensures { result ≡ every (feature_inside t.entry.buffer.now) (own_rows (tables_of t.entry) e) }
 {
     let first = e.first as usize;
-    let count = e.count as usize;
-    let mut k: usize = 0;
-    while k < count {
-        let b = FEATURE_ROW_SIZE * (first + k);
-        if !is_inside(buffer.len(), features[b + 1], features[b + 2]) {
-            return false;
-        }
-        k += 1;
-    }
-    true
+    (first..first + e.count as usize).all(|k| {
+        let f = t.feature_at(k);
+        is_inside(t.buffer.len(), f.at, f.len)
+    })
 }
 
 // Have agent and name at most 255 bytes (question 13)?
-fn strings_short(buffer: &[u8], e: EntryRow) -> bool
-    requires { (e.agentat + e.agentlen ≤ length buffer.now) × (e.nameat + e.namelen ≤ length buffer.now) }
-    ensures { result ≡ short_strings (entry_from_row (tables [] [] buffer.now) e) }
+#[tactic(auto, using(std::proofs::lemmas::Bool::Decides::nat_tests), unfolding(handshake::specs::Value::short_strings, handshake::specs::Tables::entry_from_row))]
+fn strings_short(t: Tables, e: EntryRow) -> bool
+    ensures { result ≡ short_strings (entry_from_row (tables_of t.entry) e) }
 {
-    let agent = part_of(buffer, e.agentat, e.agentlen);
-    if MAX_SHORT_STRING < agent.len() {
-        return false;
-    }
-    let name = part_of(buffer, e.nameat, e.namelen);
-    name.len() <= MAX_SHORT_STRING
+    t.bytes_at(e.agentat, e.agentlen).len() <= MAX_SHORT_STRING
+        && t.bytes_at(e.nameat, e.namelen).len() <= MAX_SHORT_STRING
 }
 
 // Are agent and name UTF-8 (question 4)?
-fn strings_utf8(buffer: &[u8], e: EntryRow) -> bool
-    requires { (e.agentat + e.agentlen ≤ length buffer.now) × (e.nameat + e.namelen ≤ length buffer.now) }
-    ensures { result ≡ utf8_strings (entry_from_row (tables [] [] buffer.now) e) }
+#[tactic(auto, using(std::proofs::lemmas::Bool::Decides::nat_tests), unfolding(handshake::specs::Value::utf8_strings, handshake::specs::Tables::entry_from_row))]
+fn strings_utf8(t: Tables, e: EntryRow) -> bool
+    ensures { result ≡ utf8_strings (entry_from_row (tables_of t.entry) e) }
 {
-    if !vlq_utf8::is_utf8(part_of(buffer, e.agentat, e.agentlen)) {
-        return false;
-    }
-    vlq_utf8::is_utf8(part_of(buffer, e.nameat, e.namelen))
+    is_utf8(t.bytes_at(e.agentat, e.agentlen)) && is_utf8(t.bytes_at(e.nameat, e.namelen))
 }
 
 // How many bytes an address is written as.
@@ -241,25 +198,21 @@ fn address_len(e: EntryRow) -> usize
 }
 
 // Of `before` bytes and the features of a row: 3 is asked of each length.
-fn features_size(before: usize, features: &[u32], buffer: &[u8], e: EntryRow) -> Size
-    requires before_bound { (before ≤ 1000) × (e.count ≤ 255) × (e.first + e.count ≤ length features.now / 3) }
-    requires count_value { every (feature_inside buffer.now) (rows (feature_row features.now) e.first e.count) ≡ true }
-    ensures { result ≡ sized (ask 3 (lengths_within (entry_from_row (tables [] features.now buffer.now) e)) ∷ []) (before + length (flat_map feature_bytes (map (feature_from_row buffer.now) (rows (feature_row features.now) e.first e.count)))) }
+fn features_size(before: usize, t: Tables, e: EntryRow) -> Result<usize, Refusal>
+    requires { (before ≤ 1000) × (e.count ≤ 255) × (e.first + e.count ≤ length t.features.now / 3) }
+    ensures { size_said result ≡ sized (ask 3 (lengths_within (entry_from_row (tables_of t.entry) e)) ∷ []) (before + length (flat_map feature_bytes (map (feature_from_row t.entry.buffer.now) (own_rows (tables_of t.entry) e)))) }
 {
     let first = e.first as usize;
-    let count = e.count as usize;
     let mut m = before;
-    let mut k: usize = 0;
-    while k < count {
-        let b = FEATURE_ROW_SIZE * (first + k);
-        let body = part_of(buffer, features[b + 1], features[b + 2]);
+    for k in 0..e.count as usize {
+        let f = t.feature_at(first + k);
+        let body = t.bytes_at(f.at, f.len);
         if MAX_BODY_SIZE < body.len() {
-            return Size::Refused(3);
+            return Err(Refusal::LengthTooLarge);
         }
         m += feature_len(body.len());
-        k += 1;
     }
-    Size::Bytes(m)
+    Ok(m)
 }
 
 // How many bytes a feature with a body of n bytes is written as.
@@ -268,13 +221,4 @@ fn feature_len(n: usize) -> usize
     ensures { (result ≡ 1 + length (vlq_bytes n) + n) × (result ≤ limit + 11) }
 {
     1 + vlq_len(n as u64) + n
-}
-
-// The bytes of the buffer that a row names; all are there.
-fn part_of(buffer: &[u8], at: u32, len: u32) -> &[u8]
-    requires { at + len ≤ length buffer.now }
-    ensures { result.now ≡ bytes_at buffer.now at len }
-{
-    let start = at as usize;
-    &buffer[start..start + len as usize]
 }

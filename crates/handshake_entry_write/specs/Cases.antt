@@ -1,10 +1,9 @@
--- What the writer of all entries says where two questions are answered "no" at once, and at the limit of the body, computed from the definition.
+-- What the writer of all entries says where two questions are answered "no" at once, and at the limit of the body,
+-- computed from the definition.
 use Rattle.std.specs.Prelude.{◌≡◌, refl}
 use mathlib.Core.List.{List, [], ◌∷◌, map, flat_map}
 use Rattle.wire.specs.Bytes.{every}
-use Rattle.wire.specs.Output.{asked, written}
-use Rattle.wire.specs.declared.Written.{Written}
-use Rattle.wire.specs.declared.Written.TheVariants.{To, Refused}
+use Rattle.wire.specs.Output.{asked, written, Written, To, Refused}
 use Rattle.handshake.specs.Value.{short_strings, utf8_strings, few_features, lengths_within, entries_asked}
 use Rattle.handshake.specs.Entry.{address_of}
 use Rattle.handshake.specs.Tables.{rows, Tables, tables, feature_from_row, entry_from_row, entries_of, whole_rows, feature_numbers, entry_numbers, tables_whole, inside, feature_inside, entry_inside}

@@ -2,15 +2,12 @@
 use Rattle.std.specs.Prelude.{ℕ, ◌+◌, ◌/◌, ◌≤◌, ◌<◌, List, [], ◌∷◌, ◌≡◌, refl, length}
 use Rattle.std.proofs.Math.Path.{ap}
 use Rattle.std.proofs.Common.{◌∙◌}
-use Rattle.wire.specs.declared.Size.{Size}
-use Rattle.wire.specs.declared.Written.{Written}
-use Rattle.wire.specs.declared.Written.TheVariants.{To, Refused}
-use Rattle.wire.specs.Output.{ask, output_after, Wrote}
+use Rattle.wire.specs.Output.{Size, Written, To, Refused, ask, output_after, Wrote}
 use Rattle.wire_output.specs.Asked.{written_for, output_asked}
 use Rattle.wire_output.specs.AskedLaws.{Without16, output-sized}
 use Rattle.wire_output.specs.CheckedLaws.{accepted, stored, kept}
 use Rattle.handshake.specs.Value.{entry_bytes, entries_asked}
-use Rattle.handshake.specs.Tables.{Tables, tables, entry_row, tables_whole}
+use Rattle.handshake.specs.Tables.{Tables, entry_row, tables_whole}
 use Rattle.handshake.specs.Writes.{entry_at_row, row_asked, entry_written}
 use Rattle.handshake_entry_ask.specs.Asked.{entry_size}
 use Rattle.handshake_entry_write.specs.Ready.{Ready}
@@ -28,7 +25,7 @@ module _ (l : Tables) (k : ℕ) (out : List ℕ) (at : ℕ) {size : Size} {r : W
   entry_in-table p = row_in_table l k (accepted (ask 16 (tables_whole l) ∷ []) (row_asked l k) out at (entry_bytes (entry_at_row l k)) says p).rest
 
   pub entry-accepted : {e : ℕ} → r ≡ To e
-      → Ready (tables [] l.features l.buffer) (entry_row l.entries k) × (at + length (entry_bytes (entry_at_row l k)) ≤ length out)
+      → Ready l (entry_row l.entries k) × (at + length (entry_bytes (entry_at_row l k)) ≤ length out)
   entry-accepted p =
       let yes = accepted (ask 16 (tables_whole l) ∷ []) (row_asked l k) out at (entry_bytes (entry_at_row l k)) says p in
       (row_ready l k yes.rest yes.first.0, yes.room)

@@ -1,6 +1,6 @@
 -- What a row's numbers say, its strings and its address.
-use Rattle.std.specs.Prelude.{ℕ, suc, ◌+◌, ◌-◌, ◌≤◌, ◌<◌, true, ◌||◌, List, [], ◌∷◌, ◌++◌, ◌≡◌, refl, eqb, leb, length, get_or, drop}
-use Rattle.std.proofs.Common.{arith, ⊎_elim, ap, length-append, ltb-true, lt-ltb, leb-true, ne_eqb}
+use Rattle.std.specs.Prelude.{ℕ, ◌+◌, ◌-◌, ◌<◌, true, ◌||◌, List, [], ◌∷◌, ◌++◌, ◌≡◌, eqb, leb, length, drop}
+use Rattle.std.proofs.Common.{arith, ⊎_elim, ap, length-append, ltb-true, ne_eqb}
 use Rattle.wire.specs.Bytes.{every}
 use Rattle.wire.proofs.BytesLaws.{is_byte, every_take, every_drop}
 use Rattle.handshake.specs.declared.EntryRow.{EntryRow}
@@ -12,12 +12,6 @@ use Rattle.handshake.specs.Tables.{bytes_at, feature_numbers, entry_numbers, ins
 use Rattle.handshake.proofs.TablesLaws.{length-bytes_at, numbers_of}
 use Rattle.vlq.specs.Vlq.{vlq_bytes}
 
--- the elements of a slice of bytes
-pub all_bytes_lem : (s : List ℕ) → ((i : ℕ) → get_or s i 0 < 256) → every is_byte s ≡ true
-unfolding every
-all_bytes_lem [] h = refl
-all_bytes_lem (b ∷ s) h = rw (lt-ltb b 256 (h 0)) (all_bytes_lem s (λ i. h (suc i)))
-
 pub id-byte : (f : FeatureRow) → feature_numbers f ≡ true → f.id < 256
 unfolding feature_numbers
 id-byte f h = ltb-true f.id 256 h
@@ -27,10 +21,6 @@ id-byte f h = ltb-true f.id 256 h
 pub address-zero : (l : ℕ) (bytes : List ℕ) (port : ℕ) → l ≡ 0 → address_bytes (address_of l bytes port) ≡ 0 ∷ []
 unfolding address_bytes address_of
 address-zero l bytes port e = rw e
-
-pub address-within : (r : EntryRow) (len : ℕ) → (eqb r.addrlen 0 || leb (r.addrat + (r.addrlen - 4)) len) ≡ true → (r.addrlen ≡ 0 → ⊥)
-    → r.addrat + (r.addrlen - 4) ≤ len
-address-within r len part some = leb-true (r.addrat + (r.addrlen - 4)) len (rw (ne_eqb r.addrlen 0 some) at part)
 
 module _ (buffer : List ℕ) (r : EntryRow) (are : every is_byte buffer ≡ true) (numbers : entry_numbers r ≡ true)
     (part : (eqb r.addrlen 0 || leb (r.addrat + (r.addrlen - 4)) (length buffer)) ≡ true) (some : r.addrlen ≡ 0 → ⊥)

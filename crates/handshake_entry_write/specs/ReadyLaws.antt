@@ -8,11 +8,11 @@ use Rattle.wire.specs.Bytes.{every}
 use Rattle.wire.proofs.BytesLaws.{and-true, every_map}
 use Rattle.wire.proofs.OutputLaws.{AllHold}
 use Rattle.handshake.specs.Value.{EntryValue, short_strings, utf8_strings, few_features, lengths_within, entries_asked}
-use Rattle.handshake.specs.Tables.{Tables, tables, feature_row, entry_row, entry_rows, entry_from_row, entries_of, feature_numbers, tables_whole, entry_inside}
+use Rattle.handshake.specs.Tables.{Tables, feature_row, entry_row, entry_rows, entry_from_row, entries_of, feature_numbers, tables_whole, entry_inside}
 use Rattle.handshake.proofs.TablesLaws.{every_row_lem, row_numbers_lem, row_inside_lem, whole-features, own_range}
 use Rattle.handshake.proofs.RowsLaws.{every-rows}
 use Rattle.handshake.specs.Writes.{entry_at_row, row_inside, row_asked}
-use Rattle.handshake_entry_rows.specs.ValueLaws.{own-entry, length-features}
+use Rattle.handshake_entry_rows.specs.ValueLaws.{length-features}
 use Rattle.handshake_entry_write.specs.Ready.{Ready}
 
 module _ (l : Tables) (k : ℕ) (yes : AllHold (row_asked l k)) where
@@ -20,7 +20,7 @@ module _ (l : Tables) (k : ℕ) (yes : AllHold (row_asked l k)) where
   unfolding row_inside
   row_in_table = ltb-true k (length l.entries / 12) (and-true (ltb k (length l.entries / 12)) _ yes.0).0
 
-  pub row_ready : tables_whole l ≡ true → Ready (tables [] l.features l.buffer) (entry_row l.entries k)
+  pub row_ready : tables_whole l ≡ true → Ready l (entry_row l.entries k)
   unfolding entry_inside entries_asked every few_features
   row_ready whole =
       let r = entry_row l.entries k in
@@ -30,7 +30,7 @@ module _ (l : Tables) (k : ℕ) (yes : AllHold (row_asked l k)) where
         numbers = row_numbers_lem l whole k yes.0;
         ids = every-rows feature_numbers (feature_row l.features) (length l.features / 3) r.first r.count (whole-features l whole) (own_range l r all);
         inside = all;
-        short = rw (own-entry l r) (and-true (short_strings (entry_from_row l r)) true yes.1.0).0;
+        short = (and-true (short_strings (entry_from_row l r)) true yes.1.0).0;
         few = omega (arith, few, length-features l r);
       }
 

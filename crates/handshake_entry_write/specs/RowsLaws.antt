@@ -3,22 +3,19 @@ use Rattle.std.specs.Prelude.{ℕ, ◌+◌, ◌/◌, ◌≤◌, ◌<◌, ◌≡�
 use mathlib.Core.List.{List, [], ◌∷◌, flat_map}
 use Rattle.std.proofs.Math.Path.{ap}
 use Rattle.std.proofs.Common.{◌∙◌}
-use Rattle.wire.specs.declared.Size.{Size}
-use Rattle.wire.specs.declared.Written.{Written}
-use Rattle.wire.specs.declared.Written.TheVariants.{To, Refused}
-use Rattle.wire.specs.Output.{ask, output_after, Wrote}
+use Rattle.wire.specs.Output.{Size, Written, To, Refused, ask, output_after, Wrote}
 use Rattle.wire_output.specs.Asked.{written_for, output_asked}
 use Rattle.wire_output.specs.AskedLaws.{Without16, output-sized}
 use Rattle.wire_output.specs.CheckedLaws.{accepted, stored, kept}
 use Rattle.handshake.specs.Value.{entry_bytes, entries_asked}
-use Rattle.handshake.specs.Tables.{Tables, tables, entry_row, entries_of, tables_whole}
+use Rattle.handshake.specs.Tables.{Tables, entry_row, entries_of, tables_whole}
 use Rattle.handshake_entry_ask.specs.Asked.{rows_asked, entries_size}
 use Rattle.handshake_entry_write.specs.Ready.{Ready, EntriesReady}
 use Rattle.handshake_entry_write.specs.ReadyLaws.{row_ready, each-row_asked}
 use Rattle.handshake_entry_write.specs.Rows.{rows_written}
 
 -- each row can be stored
-pub each-row_ready : (l : Tables) (k : ℕ) → k < length l.entries / 12 → EntriesReady l → Ready (tables [] l.features l.buffer) (entry_row l.entries k)
+pub each-row_ready : (l : Tables) (k : ℕ) → k < length l.entries / 12 → EntriesReady l → Ready l (entry_row l.entries k)
 each-row_ready l k h all = row_ready l k (each-row_asked l k h all.inside all.asked) all.whole
 
 -- what was said of the entries, and of the output

@@ -8,6 +8,7 @@ use Rattle.types.specs.declared.ProxyMode.TheVariants.{Full}
 use Rattle.types.specs.declared.Address.TheVariants.{None}
 use Rattle.handshake.specs.Value.{FeatureValue}
 use Rattle.handshake.specs.Writes.{Config, mode_feature, session_feature}
+use Rattle.handshake_features_write.specs.declared.Mode.{Mode}
 
 -- agent, version, name, address and timestamp are left empty
 abbrev made : Network → ProxyMode → ℕ → Bool → ℤ → ℤ → Config
@@ -26,8 +27,8 @@ made network mode state_type verifying blocks_to_keep session =
       session_id = session;
     }
 
-unfoldable pub mode_feature_of : ProxyMode → ℕ → Bool → ℤ → FeatureValue
-mode_feature_of mode state_type verifying blocks_to_keep = mode_feature (made Mainnet mode state_type verifying blocks_to_keep (pos 0))
+unfoldable pub mode_feature_of : Mode → FeatureValue
+mode_feature_of m = mode_feature (made Mainnet m.proxy m.state_type_id m.verifying m.blocks_to_keep (pos 0))
 
 unfoldable pub session_feature_of : Network → ℤ → FeatureValue
 session_feature_of network session = session_feature (made network Full 0 false (pos 0) session)

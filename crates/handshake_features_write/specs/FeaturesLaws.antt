@@ -1,6 +1,6 @@
 -- Laws of the features of `build`: they are those of any Config with their parts, their bytes one after the other, and
 -- how many there are.
-use Rattle.std.specs.Prelude.{ℕ, ◌+◌, ◌^◌, ◌≤◌, ◌<◌, Bool, cond, ◌≡◌, ℤ, length}
+use Rattle.std.specs.Prelude.{ℕ, ◌+◌, ◌^◌, ◌≤◌, ◌<◌, cond, ◌≡◌, ℤ, length}
 use Rattle.std.proofs.Common.{arith, sym, ◌∙◌, length-append}
 use mathlib.Core.List.{List, [], ◌∷◌, ◌++◌}
 use Rattle.std.proofs.Math.Path.{refl, ap}
@@ -14,10 +14,11 @@ use Rattle.types.specs.declared.ProxyMode.{ProxyMode}
 use Rattle.types.specs.declared.ProxyMode.TheVariants.{Full, Light}
 use Rattle.handshake.specs.Value.{FeatureValue, feature_bytes}
 use Rattle.handshake.specs.Writes.{Config, nipopow, mode_feature, session_feature}
+use Rattle.handshake_features_write.specs.declared.Mode.{Mode}
 use Rattle.handshake_features_write.specs.Features.{mode_feature_of, session_feature_of}
 
 module _ (c : Config) where
-  pub mode_of : mode_feature c ≡ mode_feature_of c.mode c.state_type c.verifying c.blocks_to_keep
+  pub mode_of : mode_feature c ≡ mode_feature_of (record { proxy = c.mode; state_type_id = c.state_type; verifying = c.verifying; blocks_to_keep = c.blocks_to_keep })
   unfolding mode_feature mode_feature_of
   mode_of = refl
 
@@ -48,29 +49,29 @@ unfolding nipopow
 nipopow-two Full = omega arith
 nipopow-two Light = omega arith
 
-module _ (mode : ProxyMode) (state_type : ℕ) (verifying : Bool) (blocks_to_keep : ℤ) {z : ℕ} (e : z ≡ zigzag_encode blocks_to_keep) (small : z < 2 ^ 64) where
+module _ (mode : Mode) {z : ℕ} (e : z ≡ zigzag_encode mode.blocks_to_keep) (small : z < 2 ^ 64) where
   abbrev mode_feature_lem : FeatureValue
-  mode_feature_lem = mode_feature_of mode state_type verifying blocks_to_keep
+  mode_feature_lem = mode_feature_of mode
 
-  mode_body_lem : mode_feature_lem.body ≡ state_type ∷ (cond verifying 1 0 ∷ (nipopow mode ++ vlq_bytes z))
+  mode_body_lem : mode_feature_lem.body ≡ mode.state_type_id ∷ (cond mode.verifying 1 0 ∷ (nipopow mode.proxy ++ vlq_bytes z))
   unfolding mode_feature_of mode_feature
-  mode_body_lem = ap (λ (y : ℕ). state_type ∷ (cond verifying 1 0 ∷ (nipopow mode ++ vlq_bytes y))) (sym e)
+  mode_body_lem = ap (λ (y : ℕ). mode.state_type_id ∷ (cond mode.verifying 1 0 ∷ (nipopow mode.proxy ++ vlq_bytes y))) (sym e)
 
-  mode-size : length mode_feature_lem.body ≡ 2 + length (nipopow mode) + length (vlq_bytes z)
-  mode-size = omega (arith, ap length mode_body_lem, length-append (nipopow mode) (vlq_bytes z))
+  mode-size : length mode_feature_lem.body ≡ 2 + length (nipopow mode.proxy) + length (vlq_bytes z)
+  mode-size = omega (arith, ap length mode_body_lem, length-append (nipopow mode.proxy) (vlq_bytes z))
 
   mode-short : length mode_feature_lem.body < 128
-  mode-short = omega (arith, mode-size, nipopow-two mode, vlq_ten z small)
+  mode-short = omega (arith, mode-size, nipopow-two mode.proxy, vlq_ten z small)
 
-  pub length-mode : length (feature_bytes mode_feature_lem) ≡ 4 + length (nipopow mode) + length (vlq_bytes z)
+  pub length-mode : length (feature_bytes mode_feature_lem) ≡ 4 + length (nipopow mode.proxy) + length (vlq_bytes z)
   length-mode = omega (arith, mode-size, short-length mode_feature_lem mode-short)
 
-  pub mode_parts : {n flag : ℕ} → n + 2 ≡ length (feature_bytes mode_feature_lem) → flag ≡ cond verifying 1 0
-      → feature_bytes mode_feature_lem ≡ (16 ∷ n ∷ state_type ∷ flag ∷ []) ++ (nipopow mode ++ vlq_bytes z)
+  pub mode_parts : {n flag : ℕ} → n + 2 ≡ length (feature_bytes mode_feature_lem) → flag ≡ cond mode.verifying 1 0
+      → feature_bytes mode_feature_lem ≡ (16 ∷ n ∷ mode.state_type_id ∷ flag ∷ []) ++ (nipopow mode.proxy ++ vlq_bytes z)
   unfolding mode_feature_of mode_feature
   mode_parts {n} {flag} p q =
       short-of mode_feature_lem p mode-short ∙ ap (λ (l : List ℕ). 16 ∷ (n ∷ l)) mode_body_lem
-      ∙ ap (λ (x : ℕ). 16 ∷ (n ∷ (state_type ∷ (x ∷ (nipopow mode ++ vlq_bytes z))))) (sym q)
+      ∙ ap (λ (x : ℕ). 16 ∷ (n ∷ (mode.state_type_id ∷ (x ∷ (nipopow mode.proxy ++ vlq_bytes z))))) (sym q)
 
 pub length-magic : (n : Network) → length (magic_of n) ≡ 4
 length-magic Mainnet = refl

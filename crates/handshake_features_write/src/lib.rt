@@ -3,8 +3,8 @@
 // Each writer asks the room first and stores only where there is some.
 #![tactic(auto)]
 
-ghost use Rattle.std.specs.Prelude.{Bool, cond, ◌≡◌, [], ℕ, ◌+◌, ◌≤◌, length};
-ghost use Rattle.wire.specs.Output.{put, written, output_after, Wrote};
+ghost use Rattle.std.specs.Prelude.{◌≡◌, [], ◌+◌, ◌≤◌, length, Bool, ℕ};
+ghost use Rattle.wire.specs.Output.{said, written, output_after, Wrote};
 ghost use Rattle.types.specs.declared.Network.{Network};
 ghost use Rattle.handshake.specs.Value.{feature_bytes};
 ghost use Rattle.handshake.specs.Writes.{nipopow};
@@ -14,98 +14,85 @@ use handshake::{FEATURE_MODE, FEATURE_SESSION};
 use types::{Network, ProxyMode};
 use vlq_write::{vlq_len, write_vlq};
 use vlq_zigzag::{zigzag_encode, zigzag_encode_i64};
-use wire::Written;
+use wire::Refusal;
 use wire_output::ask_room;
 use wire_part_write::write_part;
 
 // ---- Mode
 
+// What the Mode feature says of a node: full or light, the state type byte, whether transactions are verified, and
+// how many blocks are kept.
+#[derive(Clone, Copy)]
+pub struct Mode {
+    pub proxy: ProxyMode,
+    pub state_type_id: u8,
+    pub verifying: bool,
+    pub blocks_to_keep: i32,
+}
+
 // The state type byte, whether transactions are verified, and how many blocks are kept.
-pub fn write_mode(
-    out: &mut [u8],
-    at: usize,
-    mode: ProxyMode,
-    state_type_id: u8,
-    verifying: bool,
-    blocks_to_keep: i32,
-) -> Written
-    ensures value { result ≡ written [] [] out.old at (feature_bytes (mode_feature_of mode state_type_id verifying blocks_to_keep)) }
-    ensures out_after { out.new ≡ output_after result out.old at (feature_bytes (mode_feature_of mode state_type_id verifying blocks_to_keep)) }
+#[tactic(auto, unfolding(wire::specs::Output::asked, wire::specs::Output::written, wire::specs::Output::output_after))]
+pub fn write_mode(out: &mut [u8], at: usize, mode: Mode) -> Result<usize, Refusal>
+    ensures value { said result ≡ written [] [] out.old at (feature_bytes (mode_feature_of mode)) }
+    ensures out_after { out.new ≡ output_after (said result) out.old at (feature_bytes (mode_feature_of mode)) }
 {
-    let answer = ask_room(out.len(), at, mode_len(mode, blocks_to_keep));
-    if let Written::To(_) = answer {
-        put_mode(out, at, mode, state_type_id, verifying, blocks_to_keep);
-    }
-    answer
+    let end = ask_room(out.len(), at, mode_len(mode))?;
+    put_mode(out, at, mode);
+    Ok(end)
 }
 
 // How many bytes Mode is written as, whatever the state type and the flag.
-pub fn mode_len(mode: ProxyMode, blocks_to_keep: i32) -> usize
-    ensures { ((state_type_id : ℕ) (verifying : Bool) → result ≡ length (feature_bytes (mode_feature_of mode state_type_id verifying blocks_to_keep))) × (result ≤ 16) }
+pub fn mode_len(mode: Mode) -> usize
+    ensures { (result ≡ length (feature_bytes (mode_feature_of mode))) × (result ≤ 16) × ((state_type_id : ℕ) (verifying : Bool) → result ≡ length (feature_bytes (mode_feature_of (record { proxy = mode.proxy; state_type_id = state_type_id; verifying = verifying; blocks_to_keep = mode.blocks_to_keep })))) }
 {
-    let n = vlq_len(zigzag_encode(blocks_to_keep) as u64);
-    match mode {
+    let n = vlq_len(u64::from(zigzag_encode(mode.blocks_to_keep)));
+    match mode.proxy {
         ProxyMode::Full => 5 + n,
         ProxyMode::Light => 6 + n,
     }
 }
 
-fn put_mode(
-    out: &mut [u8],
-    at: usize,
-    mode: ProxyMode,
-    state_type_id: u8,
-    verifying: bool,
-    blocks_to_keep: i32,
-)
-    requires { at + length (feature_bytes (mode_feature_of mode state_type_id verifying blocks_to_keep)) ≤ length out.old }
-    ensures { out.new ≡ put out.old at (feature_bytes (mode_feature_of mode state_type_id verifying blocks_to_keep)) }
+// Stores Mode, for which there is room, and gives the place after it.
+fn put_mode(out: &mut [u8], at: usize, mode: Mode) -> usize
+    requires { at + length (feature_bytes (mode_feature_of mode)) ≤ length out.old }
+    ensures { Wrote out.old at (feature_bytes (mode_feature_of mode)) result out.new }
 {
-    let kept = zigzag_encode(blocks_to_keep) as u64;
-    out[at] = FEATURE_MODE;
-    out[at + 1] = (mode_len(mode, blocks_to_keep) - 2) as u8;
-    out[at + 2] = state_type_id;
-    out[at + 3] = flag_of(verifying);
-    let a = put_nipopow(out, at + 4, mode);
-    write_vlq(out, a, kept);
-}
-
-fn flag_of(b: bool) -> u8
-    ensures { result ≡ cond b 1 0 }
-{
-    if b { 1 } else { 0 }
+    let kept = u64::from(zigzag_encode(mode.blocks_to_keep));
+    let n = (mode_len(mode) - 2) as u8;
+    let flag = u8::from(mode.verifying);
+    let head = [FEATURE_MODE, n, mode.state_type_id, flag];
+    let middle = write_part(out, at, &head).unwrap();
+    let end = put_nipopow(out, middle, mode.proxy);
+    write_vlq(out, end, kept).unwrap()
 }
 
 // 00 in Full; 01 02 in Light: some, and the zigzag VLQ of 1.
-fn put_nipopow(out: &mut [u8], at: usize, mode: ProxyMode) -> usize
-    requires { at + length (nipopow mode) ≤ length out.old }
-    ensures { Wrote out.old at (nipopow mode) result out.new }
+fn put_nipopow(out: &mut [u8], at: usize, proxy: ProxyMode) -> usize
+    requires { at + length (nipopow proxy) ≤ length out.old }
+    ensures { Wrote out.old at (nipopow proxy) result out.new }
 {
-    match mode {
-        ProxyMode::Full => {
-            out[at] = 0;
-            at + 1
-        }
-        ProxyMode::Light => {
-            out[at] = 1;
-            out[at + 1] = 2;
-            at + 2
-        }
+    match proxy {
+        ProxyMode::Full => write_part(out, at, &[0]).unwrap(),
+        ProxyMode::Light => write_part(out, at, &[1, 2]).unwrap(),
     }
 }
 
 // ---- Session
 
 // The network's magic and the session id.
-pub fn write_session(out: &mut [u8], at: usize, network: Network, session: i64) -> Written
-    ensures value { result ≡ written [] [] out.old at (feature_bytes (session_feature_of network session)) }
-    ensures out_after { out.new ≡ output_after result out.old at (feature_bytes (session_feature_of network session)) }
+#[tactic(auto, unfolding(wire::specs::Output::asked, wire::specs::Output::written, wire::specs::Output::output_after))]
+pub fn write_session(
+    out: &mut [u8],
+    at: usize,
+    network: Network,
+    session: i64,
+) -> Result<usize, Refusal>
+    ensures value { said result ≡ written [] [] out.old at (feature_bytes (session_feature_of network session)) }
+    ensures out_after { out.new ≡ output_after (said result) out.old at (feature_bytes (session_feature_of network session)) }
 {
-    let answer = ask_room(out.len(), at, session_len(session));
-    if let Written::To(_) = answer {
-        put_session(out, at, network, session);
-    }
-    answer
+    let end = ask_room(out.len(), at, session_len(session))?;
+    put_session(out, at, network, session);
+    Ok(end)
 }
 
 // How many bytes Session is written as, in any network.
@@ -115,14 +102,14 @@ pub fn session_len(session: i64) -> usize
     6 + vlq_len(zigzag_encode_i64(session))
 }
 
-fn put_session(out: &mut [u8], at: usize, network: Network, session: i64)
+// Stores Session, for which there is room, and gives the place after it.
+fn put_session(out: &mut [u8], at: usize, network: Network, session: i64) -> usize
     requires { at + length (feature_bytes (session_feature_of network session)) ≤ length out.old }
-    ensures { out.new ≡ put out.old at (feature_bytes (session_feature_of network session)) }
+    ensures { Wrote out.old at (feature_bytes (session_feature_of network session)) result out.new }
 {
-    let magic = network.magic();
     let id = zigzag_encode_i64(session);
-    out[at] = FEATURE_SESSION;
-    out[at + 1] = (session_len(session) - 2) as u8;
-    write_part(out, at + 2, &magic);
-    write_vlq(out, at + 6, id);
+    let head = [FEATURE_SESSION, (session_len(session) - 2) as u8];
+    let middle = write_part(out, at, &head).unwrap();
+    let end = write_part(out, middle, &network.magic()).unwrap();
+    write_vlq(out, end, id).unwrap()
 }

@@ -1,17 +1,13 @@
 -- Document 01, "Questions", Caller: a feature by index, inside and outside, and only once its entry has been read.
-use Rattle.std.specs.Prelude.{ℕ, List, [], ◌∷◌, map, ◌≡◌, refl}
+use Rattle.std.specs.Prelude.{ℕ, List, [], ◌∷◌, map, ◌≡◌, refl, Ok, Err}
 use Rattle.wire.specs.Reader.{Answer, got, refused, fold, list_of}
+use Rattle.wire.specs.declared.Refusal.TheVariants.{VlqOverflow}
 use Rattle.vlq_utf8.specs.Utf8.{utf8_from, utf8}
 use Rattle.vlq.specs.Vlq.{groups, vlq, vlq_length}
 use Rattle.vlq.specs.ShortString.{string, short_string}
 use Rattle.handshake.specs.Entry.{EntryFeature, version, address_if, feature, entry}
 use Rattle.handshake_read.specs.Parts.{nth, feature_at}
-use Rattle.handshake_read.specs.Answers.{feature_answer, entry_answer, size_answer}
-use Rattle.handshake_read.specs.declared.Feature.{Feature}
-use Rattle.handshake_read.specs.declared.PeerSpec.{PeerSpec}
-use Rattle.handshake_read.specs.declared.FeatureRead.TheVariants as FeatureReads
-use Rattle.handshake_read.specs.declared.EntryRead.TheVariants as EntryReads
-use Rattle.handshake_read.specs.declared.SizeRead.TheVariants as SizeReads
+use Rattle.handshake_read.specs.Answers.{size_answer}
 
 pub record Case : Type 0 where
   pub index : ℕ
@@ -45,12 +41,6 @@ pub all-cases : map (λ (c : Case). feature_at c.index (entry_with c.features) 0
 unfolding cases nth feature_at fold list_of groups vlq vlq_length string short_string utf8_from utf8 version address_if feature entry
 all-cases = refl
 
--- what the code's answers mean
-pub all_answers : (f : Feature) (p : PeerSpec) →
-    (feature_answer (FeatureReads.Value f (record { at = 5 })) ≡ got f 5)
-    × (feature_answer (FeatureReads.Refused 3) ≡ refused 3)
-    × (entry_answer (EntryReads.Value p (record { at = 6 })) ≡ got p 6)
-    × (entry_answer (EntryReads.Refused 4) ≡ refused 4)
-    × (size_answer (SizeReads.Size 7) ≡ got 7 7)
-    × (size_answer (SizeReads.Refused 2) ≡ refused 2)
-all_answers f p = (refl, refl, refl, refl, refl, refl)
+-- what the size's answers mean
+pub all_answers : (size_answer (Ok 7) ≡ got 7 7) × (size_answer (Err VlqOverflow) ≡ refused 2)
+all_answers = (refl, refl)

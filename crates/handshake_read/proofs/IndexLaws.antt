@@ -35,3 +35,5 @@ module _ (k : ℕ) (s : List ℕ) (at : ℕ) {e : Entry} {next : ℕ} {p : PeerS
   index-refused g r =
       let i = indexed (λ before. feature) s k (entry_listed s at q) (omega (arith, count)) in
       no_answer (sym (rw (← start) at r) ∙ i.skipped)
+
+pub ruleset by_index = (index-outside, index-inside, index-refused)

@@ -1,4 +1,4 @@
--- A feature by index; and an entry in the two parts that the code reads one after the other. That the two parts are an entry is shown in `PartsLaws`.
+-- A feature by index; and an entry in two parts, before its features and these. That the two parts are an entry is shown in `PartsLaws`.
 use Rattle.std.specs.Prelude.{ℕ, zero, suc, ◌+◌, List, [], ◌∷◌, length}
 use Rattle.wire.specs.Reader.{Answer, got, refused, Reader, bind, pure, and_then, place, byte, Segment, list_of}
 use Rattle.vlq.specs.ShortString.{short_string}

@@ -5,6 +5,7 @@ use native.Mathlib.Omega.{arith}
 use mathlib.Core.Bool.{Bool, true, false, cond}
 use mathlib.Core.List.{List}
 use mathlib.Core.Option.{Option, none, some}
+use Rattle.std.proofs.Common.{None, Some}
 use mathlib.Core.Path.{◌≡◌, refl, sym, ◌∙◌}
 use lib.Dec.{eqb}
 use lib.ListN.{length}
@@ -50,10 +51,10 @@ pub record FoundAt (s : List ℕ) (f : Feature) (o : Option EntryFeature) : Type
   pub inside : f.body.start + f.body.len ≤ length s
   pub same : o ≡ some (feature_in s f)
 
-pub found_at : (s : List ℕ) (id n at : ℕ) {f : Feature} → some f ≡ first_in id (features_from n s at) → FoundAt s f (first_feature id (features_from n s at))
+pub found_at : (s : List ℕ) (id n at : ℕ) {f : Feature} → Some f ≡ first_in id (features_from n s at) → FoundAt s f (first_feature id (features_from n s at))
 found_at s id n at {f} h = go (first_feature id (features_from n s at)) refl h
   where
-    go : (o : Option EntryFeature) → first_feature id (features_from n s at) ≡ o → some f ≡ feature_if_any o → FoundAt s f o
+    go : (o : Option EntryFeature) → first_feature id (features_from n s at) ≡ o → Some f ≡ feature_if_any o → FoundAt s f o
     go none p h = let z : ◌≡◌ {A = ℕ} 0 1 = cc in absurd (omega arith)
     go (some g) p h =
         let t = of_first_lem id (each_placed s n at) p in
@@ -61,7 +62,7 @@ found_at s id n at {f} h = go (first_feature id (features_from n s at)) refl h
         let b = t.bytes in
         rw (← u) (record { inside = t.within; same = λ i. some (record { id = g.id; body = record { start = g.body.start; bytes = sym b i } }) })
 
-pub found_none : (o : Option EntryFeature) → none ≡ feature_if_any o → o ≡ none
+pub found_none : (o : Option EntryFeature) → None ≡ feature_if_any o → o ≡ none
 found_none none h = refl
 found_none (some g) h = let z : ◌≡◌ {A = ℕ} 0 1 = cc in absurd (omega arith)
 
@@ -89,18 +90,18 @@ module _ {id : ℕ} {s : List ℕ} {n at₀ at i : ℕ} (inv : NoneSoFar id s n 
           inv.same ∙ rw (one_less h) t;
     }
 
-    pub first-here : eqb f.id id ≡ true → some f ≡ first_in id (features_from n s at₀)
+    pub first-here : eqb f.id id ≡ true → Some f ≡ first_in id (features_from n s at₀)
     unfolding features_from first_feature
     first-here k =
-        let t : first_in id (features_from (suc (n - (i + 1))) s at) ≡ some f = rw (q, rw (← e) at k, e) in
+        let t : first_in id (features_from (suc (n - (i + 1))) s at) ≡ Some f = rw (q, rw (← e) at k, e) in
         sym (inv.same ∙ rw (one_less h) t)
 
-  pub none-refused : {m : ℕ} → i < n → feature s at ≡ refused m → none ≡ first_in id (features_from n s at₀)
+  pub none-refused : {m : ℕ} → i < n → feature s at ≡ refused m → None ≡ first_in id (features_from n s at₀)
   unfolding features_from first_feature
   none-refused h q =
-      let t : first_in id (features_from (suc (n - (i + 1))) s at) ≡ none = rw q in
+      let t : first_in id (features_from (suc (n - (i + 1))) s at) ≡ None = rw q in
       sym (inv.same ∙ rw (one_less h) t)
 
-  pub none_end : n ≤ i → none ≡ first_in id (features_from n s at₀)
+  pub none_end : n ≤ i → None ≡ first_in id (features_from n s at₀)
   unfolding features_from first_feature
   none_end h = let z : n - i ≡ 0 = omega arith in sym (inv.same ∙ rw z)

@@ -39,3 +39,5 @@ module _ (s : List ℕ) where
 
   pub handshake_again : {h : EntryHandshake} {e : ℕ} {given : Handshake} → handshake s 0 ≡ got h e → handshake_of h ≡ given → entry_in s given.peer ≡ h.entry
   handshake_again q p = let r = handshake-entry s 0 q in rw (← p) (entry_itself r.0 r.1)
+
+pub ruleset again = (entry_again, handshake_again)

@@ -3,7 +3,8 @@ use Prim.Native.Nat.{ℕ, ◌+◌, ◌-◌, ◌≤◌}
 use native.Mathlib.Omega.{arith}
 use mathlib.Core.Bool.{Bool, true, false}
 use mathlib.Core.List.{List}
-use mathlib.Core.Option.{Option, none, some}
+use mathlib.Core.Option.{none}
+use Rattle.std.proofs.Common.{Option, None, Some}
 use mathlib.Core.Path.{◌≡◌}
 use lib.ListN.{length, take, drop}
 use Rattle.wire.specs.declared.Part.{Part}
@@ -17,7 +18,7 @@ use Rattle.handshake.specs.Verdict.{first_feature, string_from, url_of, rest_api
 use Rattle.handshake_read.specs.declared.Feature.{Feature}
 use Rattle.handshake_verdict.specs.Answers.{part_if_any, entry_url}
 use Rattle.handshake_verdict.specs.Peer.{segment_in}
-use Rattle.handshake_verdict.proofs.FoundLaws.{FoundAt}
+use Rattle.handshake_verdict.proofs.FoundLaws.{FoundAt, found_at, found_none}
 
 -- a short string starts within the bytes
 short_string-inside : (s : List ℕ) (at : ℕ) {g : Segment} {next : ℕ} → short_string s at ≡ got g next → g.start ≤ length s
@@ -46,11 +47,11 @@ module _ (s : List ℕ) (p : Part) where
       let z : p.start + p.len - p.start ≡ p.len = omega arith in
       omega (arith, rw (z, length_part p.len s p.start h) at (short_string-inside body 0 q))
 
-  pub url-found : {g : Segment} {next : ℕ} → short_string body 0 ≡ got g next → some (record { start = p.start + g.start; len = length g.bytes }) ≡ string_in s p
+  pub url-found : {g : Segment} {next : ℕ} → short_string body 0 ≡ got g next → Some (record { start = p.start + g.start; len = length g.bytes }) ≡ string_in s p
   unfolding string_from
   url-found q = let z : p.start + p.len - p.start ≡ p.len = omega arith in rw (rw z at q)
 
-  pub url-refused : {m : ℕ} → short_string body 0 ≡ refused m → none ≡ string_in s p
+  pub url-refused : {m : ℕ} → short_string body 0 ≡ refused m → None ≡ string_in s p
   unfolding string_from
   url-refused q = let z : p.start + p.len - p.start ≡ p.len = omega arith in rw (rw z at q)
 
@@ -59,6 +60,10 @@ module _ (s : List ℕ) (x : Entry) where
   unfolding rest_api_url url_of
   url-at f found = rw found.same
 
-  pub url-none : first_feature 4 x.features ≡ none → none ≡ entry_url x
+  pub url-none : first_feature 4 x.features ≡ none → None ≡ entry_url x
   unfolding rest_api_url url_of
   url-none q = rw q
+
+pub ruleset urls = (found_at, found_none, url-at, url-none)
+
+pub ruleset strings = (url-start, url-found, url-refused)

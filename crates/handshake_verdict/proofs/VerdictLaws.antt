@@ -50,3 +50,5 @@ module _ (network : Network) {o : Option EntryFeature} where
     pub magic-asked : {b : Bool} → 4 ≤ f.body.len → b ≡ same_bytes (take 4 (drop f.body.start s)) (magic_of network) → not b ≡ other_magic network o
     unfolding other_magic
     magic-asked k e = rw (found.same, size, le-leb 4 f.body.len k, take-take 4 f.body.len (drop f.body.start s) k, ← e)
+
+pub ruleset verdicts = (below-min, verdict-0, verdict_1, verdict_2)

@@ -1,31 +1,28 @@
--- What each answer of the code means, and what is given of an entry: its URL by its place, and the first feature with an id by its places.
-use Rattle.std.specs.Prelude.{ℕ, List}
-use Rattle.std.proofs.Math.Option.{Option, none, some}
+-- What is given of an entry: its URL by its place, and the first feature with an id by its places; and what a verdict means.
+use Rattle.std.specs.Prelude.{ℕ, List, Option, None, Some, Result, Ok, Err}
+use Rattle.std.proofs.Math.Option as Spec
 use Rattle.wire.specs.Reader.{Answer, got, refused, Segment, part_of}
 use Rattle.wire.specs.declared.Part.{Part}
+use Rattle.wire.specs.Refusals.{number}
+use Rattle.wire.specs.declared.Refusal.{Refusal}
+use Rattle.vlq.specs.declared.Cursor.{Cursor}
 use Rattle.types.specs.declared.Network.{Network}
 use Rattle.handshake.specs.Entry.{EntryFeature, Entry, EntryHandshake}
 use Rattle.handshake.specs.Verdict.{first_feature, validate_peer, rest_api_url}
 use Rattle.handshake_read.specs.Answers.{feature_of}
 use Rattle.handshake_read.specs.declared.Feature.{Feature}
-use Rattle.handshake_verdict.specs.declared.Found.{Found}
-use Rattle.handshake_verdict.specs.declared.Found.TheVariants as Founds
-use Rattle.handshake_verdict.specs.declared.VerdictRead.{VerdictRead}
-use Rattle.handshake_verdict.specs.declared.VerdictRead.TheVariants as VerdictReads
-use Rattle.handshake_verdict.specs.declared.Url.{Url}
-use Rattle.handshake_verdict.specs.declared.Url.TheVariants as Urls
-use Rattle.handshake_verdict.specs.declared.UrlRead.{UrlRead}
-use Rattle.handshake_verdict.specs.declared.UrlRead.TheVariants as UrlReads
+use Rattle.handshake_verdict.specs.declared.Verdict.{Verdict}
+use Rattle.handshake_verdict.specs.declared.Verdict.TheVariants.{Accepted, OldVersion, OtherMagic}
 
 -- ---- what is given of a reading
 
-abbrev pub part_if_any : Option Segment → Option Part
-part_if_any none = none
-part_if_any (some g) = some (part_of g)
+abbrev pub part_if_any : Spec.Option Segment → Option Part
+part_if_any Spec.none = None
+part_if_any (Spec.some g) = Some (part_of g)
 
-abbrev pub feature_if_any : Option EntryFeature → Option Feature
-feature_if_any none = none
-feature_if_any (some f) = some (feature_of f)
+abbrev pub feature_if_any : Spec.Option EntryFeature → Option Feature
+feature_if_any Spec.none = None
+feature_if_any (Spec.some f) = Some (feature_of f)
 
 abbrev pub handshake_verdict : Network → EntryHandshake → ℕ
 handshake_verdict network h = validate_peer network h.entry
@@ -37,20 +34,13 @@ entry_url e = part_if_any (rest_api_url e)
 abbrev pub first_in : ℕ → List EntryFeature → Option Feature
 first_in id l = feature_if_any (first_feature id l)
 
--- ---- what an answer means
+-- ---- what a verdict means
 
-abbrev pub verdict_answer : VerdictRead → Answer ℕ
-verdict_answer (VerdictReads.Value v c) = got v c.at
-verdict_answer (VerdictReads.Refused m) = refused m
+abbrev pub verdict_number : Verdict → ℕ
+verdict_number Accepted = 0
+verdict_number OldVersion = 1
+verdict_number OtherMagic = 2
 
-abbrev pub url : Url → Option Part
-url (Urls.At p) = some p
-url Urls.None = none
-
-abbrev pub url_answer : UrlRead → Answer (Option Part)
-url_answer (UrlReads.Value u c) = got (url u) c.at
-url_answer (UrlReads.Refused m) = refused m
-
-abbrev pub found : Found → Option Feature
-found (Founds.At f) = some f
-found Founds.None = none
+abbrev pub verdict_answer : Result (Verdict × Cursor) Refusal → Answer ℕ
+verdict_answer (Ok (v, c)) = got (verdict_number v) c.at
+verdict_answer (Err m) = refused (number m)

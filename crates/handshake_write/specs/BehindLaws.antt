@@ -1,13 +1,11 @@
 -- Laws of bytes before a value that stands behind them.
-use Rattle.std.specs.Prelude.{ℕ, ◌+◌, ◌≤◌, ◌<◌, Bool, true, false, cond, List, [], ◌++◌, ◌≡◌, refl, leb}
+use Rattle.std.specs.Prelude.{ℕ, ◌+◌, ◌≤◌, ◌<◌, Bool, true, false, cond, List, ◌++◌, ◌≡◌, refl, leb}
 use Rattle.std.proofs.Common.{arith, sym, ap, ◌∙◌}
 use Rattle.std.proofs.Math.ListN.{length, length-append}
 use borrow.Author.Tests.{leb-true, leb-false, le-leb, lt-leb}
-use Rattle.wire.specs.Output.{put, Question, asked, written, output_after}
-use Rattle.wire.proofs.OutputLaws.{in_order_lem, written-accepted, wrote_length, wrote_to, wrote_checked, wrote_refused}
+use Rattle.wire.specs.Output.{put, Question, asked, written, output_after, Written, To, Refused, Wrote}
+use Rattle.wire.proofs.OutputLaws.{in_order_lem, written-accepted, wrote_length, wrote_to, wrote_refused}
 use Rattle.wire.proofs.StandingLaws.{put-behind, after-put, after-refused}
-use Rattle.wire.specs.declared.Written.{Written}
-use Rattle.wire.specs.declared.Written.TheVariants.{To, Refused}
 use Rattle.handshake.specs.Value.{EntryValue, entry_bytes}
 use Rattle.handshake_write.specs.Behind.{behind}
 
@@ -71,13 +69,19 @@ module _ (before after : List Question) (out : List ℕ) (at m : ℕ) (a b : Lis
 
   -- the writer of b was called, said r and left mid
   module _ {r : Written} {mid : List ℕ} (says : r ≡ written before after out m b) (left : mid ≡ output_after r out m b) where
-    pub behind_stored : {e : ℕ} {x : Written} {last : List ℕ} → r ≡ To e → x ≡ written [] [] mid at a → last ≡ output_after x mid at a
-        → (r ≡ written before after out at (a ++ b)) × (last ≡ output_after r out at (a ++ b))
-    behind_stored {e} {x} {last} q say leave =
+    -- there is room for a before them
+    pub behind-room_left : {e : ℕ} → r ≡ To e → at + length a ≤ length mid
+    behind-room_left {e} q =
         let w = wrote_to before after out m b says left e q in
         let room = (written-accepted before after out m b e (sym says ∙ q)).room in
-        let stands = stands-behind room in
-        let front = wrote_checked [] [] mid at a say leave tt tt (omega (arith, stands, room, wrote_length w)) in (
+        omega (arith, stands-behind room, room, wrote_length w)
+
+    pub behind_stored : {e n : ℕ} {last : List ℕ} → r ≡ To e → Wrote mid at a n last
+        → (r ≡ written before after out at (a ++ b)) × (last ≡ output_after r out at (a ++ b))
+    behind_stored {e} q front =
+        let w = wrote_to before after out m b says left e q in
+        let room = (written-accepted before after out m b e (sym says ∙ q)).room in
+        let stands = stands-behind room in (
           says ∙ written_behind,
           after-put out at (a ++ b) q (front.bytes ∙ ap (λ (o : List ℕ). put o at a) w.bytes ∙ put-behind out at a b m stands room),
         )

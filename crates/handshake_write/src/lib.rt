@@ -4,57 +4,46 @@
 
 ghost use Rattle.std.specs.Prelude.{◌≡◌, ◌^◌, ◌<◌, true, ltb};
 ghost use Rattle.wire.specs.Bytes.{every};
-ghost use Rattle.wire.specs.Output.{output_after};
+ghost use Rattle.wire.specs.Output.{said, output_after};
 ghost use Rattle.handshake.specs.Value.{handshake_bytes};
-ghost use Rattle.handshake.specs.Tables.{tables};
 ghost use Rattle.handshake.specs.Writes.{handshake_at_row, handshake_written};
+ghost use Rattle.handshake_entry_rows.specs.Row.{tables_of};
 ghost use Rattle.handshake_write.specs.Behind.{behind};
 
+use handshake_entry_rows::Tables;
 use handshake_entry_write::write_entry;
 use vlq_write::{vlq_len, write_vlq};
-use wire::Written;
+use wire::Refusal;
 use wire_output::has_room;
 
-// A timestamp with the entry in row k. The entry is written first, behind the timestamp's place: its writer asks every question.
-// The last clause is what the types of timestamp and buffer say; written sessions rest on it.
+// A timestamp with the entry in row k. The entry is written first, behind the timestamp's place: its writer asks every
+// question. The last clause is what the types of timestamp and buffer say; written sessions rest on it.
 pub fn write_handshake(
     out: &mut [u8],
     at: usize,
     timestamp: u64,
-    entries: &[u32],
-    features: &[u32],
-    buffer: &[u8],
+    t: Tables,
     k: usize,
-) -> Written
-    ensures value { result ≡ handshake_written timestamp (tables entries.now features.now buffer.now) k out.old at }
-    ensures out_after { out.new ≡ output_after result out.old at (handshake_bytes (handshake_at_row timestamp (tables entries.now features.now buffer.now) k)) }
-    ensures timestamp_bound { (timestamp < 2 ^ 64) × (every (λ b. ltb b 256) buffer.now ≡ true) }
+) -> Result<usize, Refusal>
+    ensures value { said result ≡ handshake_written timestamp (tables_of t.entry) k out.old at }
+    ensures out_after { out.new ≡ output_after (said result) out.old at (handshake_bytes (handshake_at_row timestamp (tables_of t.entry) k)) }
+    ensures timestamp_bound { (timestamp < 2 ^ 64) × (every (λ b. ltb b 256) t.entry.buffer.now ≡ true) }
 {
-    let v = vlq_len(timestamp);
-    let answer = write_entry(
-        out,
-        place_behind(out.len(), at, v),
-        entries,
-        features,
-        buffer,
-        k,
-    );
-    if let Written::To(_) = answer {
-        write_vlq(out, at, timestamp);
-    }
-    answer
+    let place = place_behind(out.len(), at, vlq_len(timestamp));
+    let end = write_entry(out, place, t, k)?;
+    write_vlq(out, at, timestamp).unwrap();
+    Ok(end)
 }
 
-// The place after v bytes from a place on. Without room for them, one from which no byte fits: the end of the output, or the place itself if it
-// is outside.
+// The place after v bytes from a place on. Without room for them, one from which no byte fits: the end of the output,
+// or the place itself if it is outside.
+#[tactic(auto, using(std::proofs::lemmas::Bool::Decides::nat_tests), unfolding(crate::specs::Behind::behind))]
 fn place_behind(len: usize, at: usize, v: usize) -> usize
     ensures { result ≡ behind len at v }
 {
     if has_room(len, at, v) {
         at + v
-    } else if at <= len {
-        len
     } else {
-        at
+        len.max(at)
     }
 }

@@ -3,16 +3,14 @@ use Prim.Native.Nat.{ℕ}
 use mathlib.Core.Bool.{true, false}
 use mathlib.Core.List.{List}
 use mathlib.Core.Path.{◌≡◌, refl, sym, ap, ◌∙◌}
-use Rattle.wire.specs.Output.{asked, written, output_after}
-use Rattle.wire.specs.declared.Written.{Written}
-use Rattle.wire.specs.declared.Written.TheVariants.{Refused}
+use Rattle.wire.specs.Output.{asked, written, output_after, Written, Refused}
 use Rattle.handshake.specs.Value.{handshake_bytes}
 use Rattle.handshake.specs.Writes.{built, built_written}
 use Rattle.handshake.specs.Writes as writes
 use Rattle.handshake_build.specs.declared.Config.{Config}
 use Rattle.handshake_build.specs.Parts.{config_of}
 use Rattle.export_config.specs.Configs.{address_numbers}
-use Rattle.haspeljo.specs.Results.{written_number, end_after, WriterLeaves}
+use Rattle.haspeljo.specs.Results.{WriterLeaves}
 use Rattle.haspeljo.specs.Configs.{built_from_written}
 use Rattle.haspeljo.specs.Writers.{build_writer}
 use Rattle.haspeljo.proofs.ExportLaws.{writer_leaves}
@@ -38,5 +36,5 @@ module _ (kind high low : ℕ) where
 
   pub build-refused : address_numbers kind high low ≡ false → (c : writes.Config) (out : List ℕ) (at : ℕ) (array : List ℕ)
       → WriterLeaves (build_writer kind high low c) at 16 array array out out
-  unfolding written_number end_after output_after
+  unfolding output_after
   build-refused fails c out at array = writer_leaves (build_writer kind high low c) at (sym (asked_no fails c out at), refl) (refl, refl)

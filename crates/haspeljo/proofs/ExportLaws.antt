@@ -3,21 +3,18 @@ use Prim.Native.Nat.{ℕ}
 use mathlib.Core.List.{List, [], ◌∷◌}
 use mathlib.Core.Path.{◌≡◌, refl, sym, ap, ◌∙◌}
 use Rattle.wire.specs.Reader.{Answer, got, refused}
-use Rattle.wire.specs.Output.{output_after}
-use Rattle.wire.specs.declared.Written.{Written}
+use Rattle.wire.specs.Output.{output_after, Written}
 use Rattle.messages_peers_read.specs.declared.Peers.{Peers}
 use Rattle.messages_read.specs.declared.Message.TheVariants as Messages
 use Rattle.export_arrays.specs.Messages.{message_numbers}
-use Rattle.haspeljo.specs.Results.{number_of, array_after, ReaderLeaves, written_number, end_after, Writer, WriterLeaves}
+use Rattle.haspeljo.specs.Results.{ReaderLeaves, written_number, end_after, Writer, WriterLeaves}
 
 -- a reader said r, which means the answer; s is the case that r is, and last is stored in the array
 module _ {R A : Type 0} (meaning : R → Answer A) (values : A → ℕ → List ℕ) (array : List ℕ) {r s : R} {answer : Answer A} (says : meaning r ≡ answer) (is : r ≡ s) where
   pub reader-got : {a : A} {next : ℕ} {last : List ℕ} → meaning s ≡ got a next → last ≡ values a next → ReaderLeaves values answer 0 array last
-  unfolding number_of array_after
   reader-got means gives = let e = sym says ∙ ap meaning is ∙ means in record { number = rw e; array = rw e gives }
 
   pub reader-refused : {m : ℕ} → meaning s ≡ refused m → ReaderLeaves values answer m array array
-  unfolding number_of array_after
   reader-refused means = let e = sym says ∙ ap meaning is ∙ means in record { number = rw e; array = rw e }
 
 -- a writer said r and left last in the output; of r the number n was returned and the array left

@@ -3,11 +3,9 @@
 use Rattle.std.specs.Prelude.{ℕ, true, false, ◌≡◌, refl, pos, negsuc, replicate}
 use mathlib.Core.List.{List, [], ◌∷◌, map, flat_map}
 use Rattle.wire.specs.Bytes.{big_endian_bytes, every}
-use Rattle.wire.specs.Output.{asked, written}
+use Rattle.wire.specs.Output.{asked, written, Written, To, Refused}
 use Rattle.wire.specs.Reader.{got, refused}
 use Rattle.wire.specs.declared.Part.{Part}
-use Rattle.wire.specs.declared.Written.{Written}
-use Rattle.wire.specs.declared.Written.TheVariants.{To, Refused}
 use Rattle.vlq_utf8.specs.Utf8 as Utf8
 use Rattle.vlq_utf8.specs.Utf8.{lead_in, lead_of, utf8_from, utf8}
 use Rattle.vlq.specs.Vlq.{vlq_in, vlq_bytes}
@@ -120,5 +118,5 @@ results =
     ∷ []
 
 pub all_results : map (λ (c : Case (List ℕ)). c.computed) results ≡ map (λ (c : Case (List ℕ)). c.is) results
-unfolding results number_of array_after written_number end_after
+unfolding results
 all_results = refl

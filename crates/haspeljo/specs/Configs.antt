@@ -1,7 +1,6 @@
 -- What `build` is given, from numbers, and what is then said.
 use Rattle.std.specs.Prelude.{ℕ, List, [], ◌∷◌, ℤ}
-use Rattle.wire.specs.Output.{ask, written}
-use Rattle.wire.specs.declared.Written.{Written}
+use Rattle.wire.specs.Output.{ask, written, Written}
 use Rattle.handshake.specs.Value.{handshake_bytes, entries_asked}
 use Rattle.handshake.specs.Writes.{built}
 use Rattle.handshake.specs.Writes as writes

@@ -1,19 +1,17 @@
 -- What an exported function leaves: 0, with the values in the lent array; or the refusal number, with the array as it was.
 use Rattle.std.specs.Prelude.{ℕ, Bool, true, false, List, [], ◌∷◌, ◌≡◌}
-use Rattle.wire.specs.Output.{output_after}
+use Rattle.wire.specs.Output.{output_after, Written, To, Refused}
 use Rattle.wire.specs.Reader.{Answer, got, refused}
 use Rattle.wire.specs.declared.Part.{Part}
-use Rattle.wire.specs.declared.Written.{Written}
-use Rattle.wire.specs.declared.Written.TheVariants.{To, Refused}
 
 -- ---- readers
 
-unfoldable pub number_of : {A : Type 0} → Answer A → ℕ
+abbrev pub number_of : {A : Type 0} → Answer A → ℕ
 number_of (got a next) = 0
 number_of (refused m) = m
 
 -- the array after an answer, `values` being what is given of a value and the next place
-unfoldable pub array_after : {A : Type 0} → (A → ℕ → List ℕ) → Answer A → List ℕ → List ℕ
+abbrev pub array_after : {A : Type 0} → (A → ℕ → List ℕ) → Answer A → List ℕ → List ℕ
 array_after values (got a next) array = values a next
 array_after values (refused m) array = array
 
@@ -30,11 +28,11 @@ part_next p next = p.start ∷ p.len ∷ next ∷ []
 
 -- ---- writers
 
-unfoldable pub written_number : Written → ℕ
+abbrev pub written_number : Written → ℕ
 written_number (To end) = 0
 written_number (Refused m) = m
 
-unfoldable pub end_after : Written → List ℕ → List ℕ
+abbrev pub end_after : Written → List ℕ → List ℕ
 end_after (To end) array = end ∷ []
 end_after (Refused m) array = array
 

@@ -16,10 +16,6 @@ ghost use Rattle.haspeljo.specs.Results.{ReaderLeaves};
 
 use export_arrays::bodies::message_numbers;
 use export_arrays::entries::entry_numbers;
-use messages_inventory_read::IdRead;
-use messages_peers_read::{PeerEntryRead, PeersRead};
-use messages_read::MessageRead;
-use messages_response_read::{PayloadByIndexRead, PayloadRead};
 use types::BodyPlace;
 
 // The body of a frame as the message of the frame's code. r is the type byte, the count, how many entries have a bogus address, and the place
@@ -29,11 +25,11 @@ pub fn haspeljo_from_frame(body: &[u8], mainnet: u8, cap: usize, code: u8, r: &m
         r.old r.new }
 {
     match messages_read::from_frame(code, body, cap, crate::network_of(mainnet)) {
-        MessageRead::Value(m, next) => {
+        Ok((m, next)) => {
             *r = message_numbers(m, next.0);
             0
         }
-        MessageRead::Refused(m) => m,
+        Err(m) => m.number(),
     }
 }
 
@@ -43,7 +39,7 @@ pub fn haspeljo_parse_peers_body(body: &[u8], mainnet: u8, cap: usize, r: &mut [
         r.old r.new }
 {
     match messages_peers_read::parse_peers_body(body, cap, crate::network_of(mainnet)) {
-        PeersRead::Value(p, next) => {
+        Ok((p, next)) => {
             *r = [
                 0,
                 p.count as u64,
@@ -53,7 +49,7 @@ pub fn haspeljo_parse_peers_body(body: &[u8], mainnet: u8, cap: usize, r: &mut [
             ];
             0
         }
-        PeersRead::Refused(m) => m,
+        Err(m) => m.number(),
     }
 }
 
@@ -63,11 +59,11 @@ pub fn haspeljo_entry_by_index(body: &[u8], cap: usize, index: usize, r: &mut [u
         r.old r.new }
 {
     match messages_peers_read::entry_by_index(body, cap, index) {
-        PeerEntryRead::Value(peer, next) => {
+        Ok((peer, next)) => {
             *r = entry_numbers(0, peer, next.0);
             0
         }
-        PeerEntryRead::Refused(m) => m,
+        Err(m) => m.number(),
     }
 }
 
@@ -76,11 +72,11 @@ pub fn haspeljo_id_by_index(body: &[u8], index: usize, r: &mut [u64; 1]) -> u8
     ensures { ReaderLeaves id_only (map_answer id_of (id_at index body.now)) result r.old r.new }
 {
     match messages_inventory_read::id_by_index(body, index) {
-        IdRead::Value(p) => {
+        Ok(p) => {
             *r = [p.0 as u64];
             0
         }
-        IdRead::Refused(m) => m,
+        Err(m) => m.number(),
     }
 }
 
@@ -91,7 +87,7 @@ pub fn haspeljo_read_payload(body: &[u8], at: usize, total: usize, r: &mut [u64;
         r.old r.new }
 {
     match messages_response_read::read_payload(body, BodyPlace(at), total) {
-        PayloadRead::Value(p, next, sum) => {
+        Ok(((p, sum), next)) => {
             *r = [
                 p.id.0 as u64,
                 p.start.0 as u64,
@@ -101,7 +97,7 @@ pub fn haspeljo_read_payload(body: &[u8], at: usize, total: usize, r: &mut [u64;
             ];
             0
         }
-        PayloadRead::Refused(m) => m,
+        Err(m) => m.number(),
     }
 }
 
@@ -111,10 +107,10 @@ pub fn haspeljo_payload_by_index(body: &[u8], index: usize, r: &mut [u64; 4]) ->
         r.old r.new }
 {
     match messages_response_read::payload_by_index(body, index) {
-        PayloadByIndexRead::Value(p, next) => {
+        Ok((p, next)) => {
             *r = [p.id.0 as u64, p.start.0 as u64, p.len as u64, next.0 as u64];
             0
         }
-        PayloadByIndexRead::Refused(m) => m,
+        Err(m) => m.number(),
     }
 }

@@ -6,7 +6,6 @@ ghost use Rattle.export_arrays.specs.Networks.{network_of};
 ghost use Rattle.haspeljo.specs.Results.{ReaderLeaves};
 ghost use Rattle.haspeljo.specs.Frames.{frame_next};
 
-use frame_read::FrameRead;
 use types::StreamPlace;
 
 // The frame at a place: r is its code, the place and length of its body, and the next place.
@@ -15,7 +14,7 @@ pub fn haspeljo_decode(s: &[u8], at: usize, mainnet: u8, r: &mut [u64; 4]) -> u8
         r.old r.new }
 {
     match frame_read::decode(s, crate::network_of(mainnet), StreamPlace(at)) {
-        FrameRead::Value(f, next) => {
+        Ok((f, next)) => {
             *r = [
                 f.code as u64,
                 f.body.start.0 as u64,
@@ -24,6 +23,6 @@ pub fn haspeljo_decode(s: &[u8], at: usize, mainnet: u8, r: &mut [u64; 4]) -> u8
             ];
             0
         }
-        FrameRead::Refused(m) => m,
+        Err(m) => m.number(),
     }
 }

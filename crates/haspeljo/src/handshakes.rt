@@ -10,8 +10,6 @@ ghost use Rattle.export_arrays.specs.Entries.{handshake_next, entry_next, featur
 ghost use Rattle.haspeljo.specs.Results.{ReaderLeaves, value_next};
 
 use export_arrays::entries::{entry_numbers, url_numbers};
-use handshake_read::{EntryRead, FeatureRead, HandshakeRead, SizeRead};
-use handshake_verdict::{UrlRead, VerdictRead};
 use vlq::Cursor;
 
 // A handshake from the first byte on. r is the timestamp; of the entry the agent's place and length, three version numbers, the name's place and
@@ -22,11 +20,11 @@ pub fn haspeljo_parse(s: &[u8], r: &mut [u64; 15]) -> u8
         r.old r.new }
 {
     match handshake_read::parse(s) {
-        HandshakeRead::Value(h, next) => {
+        Ok((h, next)) => {
             *r = entry_numbers(h.timestamp, h.peer, next.at);
             0
         }
-        HandshakeRead::Refused(m) => m,
+        Err(m) => m.number(),
     }
 }
 
@@ -35,11 +33,11 @@ pub fn haspeljo_measure_size(s: &[u8], r: &mut [u64; 1]) -> u8
     ensures { ReaderLeaves size_only (and_then handshake (λ h. place) s.now 0) result r.old r.new }
 {
     match handshake_read::measure_size(s) {
-        SizeRead::Size(n) => {
+        Ok(n) => {
             *r = [n as u64];
             0
         }
-        SizeRead::Refused(m) => m,
+        Err(m) => m.number(),
     }
 }
 
@@ -48,11 +46,11 @@ pub fn haspeljo_parse_peer_entry(s: &[u8], at: usize, r: &mut [u64; 15]) -> u8
     ensures { ReaderLeaves entry_next (map_answer peer_spec_of (entry s.now at)) result r.old r.new }
 {
     match handshake_read::parse_peer_entry(s, Cursor { at }) {
-        EntryRead::Value(peer, next) => {
+        Ok((peer, next)) => {
             *r = entry_numbers(0, peer, next.at);
             0
         }
-        EntryRead::Refused(m) => m,
+        Err(m) => m.number(),
     }
 }
 
@@ -61,7 +59,7 @@ pub fn haspeljo_read_feature(s: &[u8], at: usize, r: &mut [u64; 4]) -> u8
     ensures { ReaderLeaves feature_next (map_answer feature_of (feature s.now at)) result r.old r.new }
 {
     match handshake_read::read_feature(s, Cursor { at }) {
-        FeatureRead::Value(f, next) => {
+        Ok((f, next)) => {
             *r = [
                 f.id as u64,
                 f.body.start as u64,
@@ -70,7 +68,7 @@ pub fn haspeljo_read_feature(s: &[u8], at: usize, r: &mut [u64; 4]) -> u8
             ];
             0
         }
-        FeatureRead::Refused(m) => m,
+        Err(m) => m.number(),
     }
 }
 
@@ -80,7 +78,7 @@ pub fn haspeljo_feature_by_index(s: &[u8], at: usize, index: usize, r: &mut [u64
         r.old r.new }
 {
     match handshake_read::feature_by_index(s, Cursor { at }, index) {
-        FeatureRead::Value(f, next) => {
+        Ok((f, next)) => {
             *r = [
                 f.id as u64,
                 f.body.start as u64,
@@ -89,7 +87,7 @@ pub fn haspeljo_feature_by_index(s: &[u8], at: usize, index: usize, r: &mut [u64
             ];
             0
         }
-        FeatureRead::Refused(m) => m,
+        Err(m) => m.number(),
     }
 }
 
@@ -99,11 +97,11 @@ pub fn haspeljo_validate_peer(s: &[u8], mainnet: u8, r: &mut [u64; 2]) -> u8
         r.old r.new }
 {
     match handshake_verdict::validate_peer(s, crate::network_of(mainnet)) {
-        VerdictRead::Value(v, next) => {
-            *r = [v as u64, next.at as u64];
+        Ok((v, next)) => {
+            *r = [u64::from(v.number()), next.at as u64];
             0
         }
-        VerdictRead::Refused(m) => m,
+        Err(m) => m.number(),
     }
 }
 
@@ -113,11 +111,11 @@ pub fn haspeljo_validate_entry(s: &[u8], at: usize, mainnet: u8, r: &mut [u64; 2
         r.old r.new }
 {
     match handshake_verdict::validate_entry(s, Cursor { at }, crate::network_of(mainnet)) {
-        VerdictRead::Value(v, next) => {
-            *r = [v as u64, next.at as u64];
+        Ok((v, next)) => {
+            *r = [u64::from(v.number()), next.at as u64];
             0
         }
-        VerdictRead::Refused(m) => m,
+        Err(m) => m.number(),
     }
 }
 
@@ -126,10 +124,10 @@ pub fn haspeljo_rest_api_url(s: &[u8], at: usize, r: &mut [u64; 4]) -> u8
     ensures { ReaderLeaves url_next (map_answer entry_url (entry s.now at)) result r.old r.new }
 {
     match handshake_verdict::rest_api_url(s, Cursor { at }) {
-        UrlRead::Value(u, next) => {
+        Ok((u, next)) => {
             *r = url_numbers(u, next.at);
             0
         }
-        UrlRead::Refused(m) => m,
+        Err(m) => m.number(),
     }
 }

@@ -1,5 +1,6 @@
 // The functions that Rust and C link, in a form that C can call; the crate haspeljo_c exports them. One that can refuse
 // returns 0, or document 01's refusal number with the lent array and output as they were.
+// Each reader matches its answer: with Result::map and one function that stores the numbers the proofs did not close.
 #![tactic(auto)]
 
 ghost use Rattle.std.specs.Prelude.{◌≡◌};
@@ -22,7 +23,7 @@ pub mod writers;
 
 use export_arrays::network_of;
 use types::Address;
-use vlq::{ByteRead, Cursor, PartRead, VlqRead};
+use vlq::Cursor;
 
 // r is the value and the next place.
 pub fn haspeljo_read_byte(s: &[u8], at: usize, r: &mut [u64; 2]) -> u8
@@ -30,11 +31,11 @@ pub fn haspeljo_read_byte(s: &[u8], at: usize, r: &mut [u64; 2]) -> u8
 {
     let c = Cursor { at };
     match c.read_byte(s) {
-        ByteRead::Value(v, next) => {
+        Ok((v, next)) => {
             *r = [v as u64, next.at as u64];
             0
         }
-        ByteRead::Refused(m) => m,
+        Err(m) => m.number(),
     }
 }
 
@@ -44,11 +45,11 @@ pub fn haspeljo_read_vlq(s: &[u8], at: usize, r: &mut [u64; 2]) -> u8
 {
     let c = Cursor { at };
     match c.read_vlq(s) {
-        VlqRead::Value(v, next) => {
+        Ok((v, next)) => {
             *r = [v, next.at as u64];
             0
         }
-        VlqRead::Refused(m) => m,
+        Err(m) => m.number(),
     }
 }
 
@@ -58,11 +59,11 @@ pub fn haspeljo_read_vlq_length(s: &[u8], at: usize, r: &mut [u64; 2]) -> u8
 {
     let c = Cursor { at };
     match c.read_vlq_length(s) {
-        VlqRead::Value(v, next) => {
+        Ok((v, next)) => {
             *r = [v, next.at as u64];
             0
         }
-        VlqRead::Refused(m) => m,
+        Err(m) => m.number(),
     }
 }
 
@@ -72,11 +73,11 @@ pub fn haspeljo_read_short_string(s: &[u8], at: usize, r: &mut [u64; 3]) -> u8
 {
     let c = Cursor { at };
     match c.read_short_string(s) {
-        PartRead::Value(p, next) => {
+        Ok((p, next)) => {
             *r = [p.start as u64, p.len as u64, next.at as u64];
             0
         }
-        PartRead::Refused(m) => m,
+        Err(m) => m.number(),
     }
 }
 
@@ -86,11 +87,11 @@ pub fn haspeljo_read_part(s: &[u8], at: usize, count: usize, r: &mut [u64; 3]) -
 {
     let c = Cursor { at };
     match c.read_part(s, count) {
-        PartRead::Value(p, next) => {
+        Ok((p, next)) => {
             *r = [p.start as u64, p.len as u64, next.at as u64];
             0
         }
-        PartRead::Refused(m) => m,
+        Err(m) => m.number(),
     }
 }
 
@@ -122,7 +123,7 @@ pub fn haspeljo_zigzag_decode_i64(value: u64) -> i64
 pub fn haspeljo_is_utf8(s: &[u8]) -> u8
     ensures { result ≡ bit (utf8 s.now) }
 {
-    if vlq_utf8::is_utf8(s) { 1 } else { 0 }
+    u8::from(vlq_utf8::is_utf8(s))
 }
 
 // 1 if the address is bogus on mainnet, or on testnet where mainnet is 0; otherwise 0.
@@ -130,22 +131,14 @@ pub fn haspeljo_is_bogus_v4(address: u32, port: u16, mainnet: u8) -> u8
     ensures { result ≡ bit (bogus (V4 address port) (network_of mainnet)) }
 {
     let network = network_of(mainnet);
-    if address_sanity::is_bogus_address(Address::V4(address, port), network) {
-        1
-    } else {
-        0
-    }
+    u8::from(address_sanity::is_bogus_address(Address::V4(address, port), network))
 }
 
 pub fn haspeljo_is_bogus_v6(high: u64, low: u64, port: u16, mainnet: u8) -> u8
     ensures { result ≡ bit (bogus (V6 high low port) (network_of mainnet)) }
 {
     let network = network_of(mainnet);
-    if address_sanity::is_bogus_address(Address::V6(high, low, port), network) {
-        1
-    } else {
-        0
-    }
+    u8::from(address_sanity::is_bogus_address(Address::V6(high, low, port), network))
 }
 
 pub fn haspeljo_blake2b256(s: &[u8], r: &mut [u8; 32])

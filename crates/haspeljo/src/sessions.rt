@@ -11,7 +11,6 @@ ghost use Rattle.haspeljo.specs.Results.{ReaderLeaves};
 use export_arrays::entries::stream_entry_numbers;
 use frame_read::StreamPart;
 use types::StreamPlace;
-use walk_by_index::{StreamEntryRead, StreamIdRead, StreamPayloadRead};
 
 // The step at a place of a session. r is
 // 0 and ten zeros at the clean end;
@@ -42,11 +41,11 @@ pub fn haspeljo_entry_in_stream(
 {
     let start = StreamPlace(start);
     match walk_by_index::entry_in_stream(s, StreamPart { start, len }, cap, index) {
-        StreamEntryRead::Value(e, end) => {
+        Ok((e, end)) => {
             *r = stream_entry_numbers(e, end.0);
             0
         }
-        StreamEntryRead::Refused(m) => m,
+        Err(m) => m.number(),
     }
 }
 
@@ -63,11 +62,11 @@ pub fn haspeljo_id_in_stream(
 {
     let start = StreamPlace(start);
     match walk_by_index::id_in_stream(s, StreamPart { start, len }, index) {
-        StreamIdRead::Value(p) => {
+        Ok(p) => {
             *r = [p.0 as u64];
             0
         }
-        StreamIdRead::Refused(m) => m,
+        Err(m) => m.number(),
     }
 }
 
@@ -84,7 +83,7 @@ pub fn haspeljo_payload_in_stream(
 {
     let start = StreamPlace(start);
     match walk_by_index::payload_in_stream(s, StreamPart { start, len }, index) {
-        StreamPayloadRead::Value(p, end) => {
+        Ok((p, end)) => {
             *r = [
                 p.id.0 as u64,
                 p.bytes.start.0 as u64,
@@ -93,6 +92,6 @@ pub fn haspeljo_payload_in_stream(
             ];
             0
         }
-        StreamPayloadRead::Refused(m) => m,
+        Err(m) => m.number(),
     }
 }

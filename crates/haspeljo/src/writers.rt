@@ -1,5 +1,6 @@
 // Writers for Rust and C, each from a place of a lent output. r is the place after what was written.
 ghost use Rattle.std.specs.Prelude.{◌≡◌};
+ghost use Rattle.wire.specs.Output.{said};
 ghost use Rattle.handshake.specs.Tables.{tables};
 ghost use Rattle.handshake_build.specs.Parts.{config_of};
 ghost use Rattle.messages.specs.Writes.{write_get_peers, write_peers, write_modifier_request, write_modifier_response, write_inv, write_sync_info, write_unknown};
@@ -8,8 +9,8 @@ ghost use Rattle.haspeljo.specs.Results.{written_number, end_after, WriterLeaves
 ghost use Rattle.haspeljo.specs.Configs.{built_from};
 ghost use Rattle.haspeljo.specs.Writers.{vlq_writer, short_string_writer, part_writer, entry_writer, handshake_writer, frame_writer, message_writer, build_writer};
 
-use export_config::ConfigRead;
-use wire::Written;
+use handshake_entry_rows::Tables;
+use wire::Refusal;
 
 // A VLQ, the shortest.
 pub fn haspeljo_write_vlq(out: &mut [u8], at: usize, value: u64, r: &mut [u64; 1]) -> u8
@@ -51,7 +52,8 @@ pub fn haspeljo_write_entry(
     ensures { WriterLeaves (entry_writer (tables entries.now features.now buffer.now) index) at result
         r.old r.new out.old out.new }
 {
-    let w = handshake_entry_write::write_entry(out, at, entries, features, buffer, index);
+    let rows = Tables::new(entries, features, buffer);
+    let w = handshake_entry_write::write_entry(out, at, rows, index);
     written_result(w, r)
 }
 
@@ -69,7 +71,8 @@ pub fn haspeljo_write_handshake(
     ensures { WriterLeaves (handshake_writer timestamp (tables entries.now features.now buffer.now) index) at result
         r.old r.new out.old out.new }
 {
-    let w = handshake_write::write_handshake(out, at, timestamp, entries, features, buffer, index);
+    let t = Tables::new(entries, features, buffer);
+    let w = handshake_write::write_handshake(out, at, timestamp, t, index);
     written_result(w, r)
 }
 
@@ -112,15 +115,8 @@ pub fn haspeljo_write_peers(
     ensures { WriterLeaves (message_writer (network_of mainnet) cap (write_peers (tables entries.now features.now buffer.now))) at result
         r.old r.new out.old out.new }
 {
-    let w = messages_peers_write::write_peers(
-        out,
-        at,
-        crate::network_of(mainnet),
-        cap,
-        entries,
-        features,
-        buffer,
-    );
+    let t = Tables::new(entries, features, buffer);
+    let w = messages_peers_write::write_peers(out, at, crate::network_of(mainnet), cap, t);
     written_result(w, r)
 }
 
@@ -271,24 +267,24 @@ pub fn haspeljo_build(
         timestamp,
         session,
     ) {
-        ConfigRead::Value(config) => {
+        Ok(config) => {
             let w = handshake_build::build(out, at, config, agent, name);
             written_result(w, r)
         }
-        ConfigRead::Refused(m) => m,
+        Err(m) => m.number(),
     }
 }
 
 // 0, with the end in r; or the refusal number, with r as it was.
-fn written_result(w: Written, r: &mut [u64; 1]) -> u8
-    ensures value { result ≡ written_number w }
-    ensures r_after { r.new ≡ end_after w r.old }
+fn written_result(w: Result<usize, Refusal>, r: &mut [u64; 1]) -> u8
+    ensures value { result ≡ written_number (said w) }
+    ensures r_after { r.new ≡ end_after (said w) r.old }
 {
     match w {
-        Written::To(end) => {
+        Ok(end) => {
             *r = [end as u64];
             0
         }
-        Written::Refused(m) => m,
+        Err(m) => m.number(),
     }
 }

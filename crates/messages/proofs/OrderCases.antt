@@ -8,9 +8,7 @@ use mathlib.Core.List.{List, [], ◌∷◌, ◌++◌, map, flat_map}
 use Rattle.std.proofs.lemmas.Bool.{lt-leb}
 use Rattle.wire.specs.Bytes.{big_endian_bytes, every}
 use Rattle.wire.proofs.BytesLaws.{length_flat_map_cons}
-use Rattle.wire.specs.Output.{asked, written}
-use Rattle.wire.specs.declared.Written.{Written}
-use Rattle.wire.specs.declared.Written.TheVariants.{To, Refused}
+use Rattle.wire.specs.Output.{asked, written, Written, To, Refused}
 use Rattle.vlq_utf8.specs.Utf8 as Utf8
 use Rattle.vlq_utf8.specs.Utf8.{lead_in, lead_of, utf8_from, utf8}
 use Rattle.vlq.specs.Vlq.{limit, vlq_in, vlq_bytes}

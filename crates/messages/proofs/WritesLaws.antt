@@ -5,7 +5,7 @@ use Rattle.std.proofs.Common.{leb-true}
 use Rattle.wire.specs.Bytes.{every, Each, none, more}
 use Rattle.wire.proofs.BytesLaws.{and-true, every-each, each_both, each-append_right, each_first, each-rest, is_byte}
 use Rattle.wire.proofs.OutputLaws.{written-accepted}
-use Rattle.wire.specs.declared.Written.TheVariants.{To}
+use Rattle.wire.specs.Output.{To}
 use Rattle.vlq.specs.Vlq.{limit}
 use Rattle.types.specs.declared.Network.{Network}
 use Rattle.handshake.specs.Value.{AddressTyped, EntryValue, entries_asked}

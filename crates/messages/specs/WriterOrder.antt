@@ -5,10 +5,8 @@
 use Rattle.std.specs.Prelude.{ℕ, ◌+◌, false, List, [], ◌∷◌, ◌++◌, map, ◌≡◌, leb, length}
 use Rattle.std.proofs.Math.Path.{refl}
 use Rattle.wire.specs.Bytes.{every}
-use Rattle.wire.specs.Output.{Question, ask, asked, written}
+use Rattle.wire.specs.Output.{Question, ask, asked, written, Written, To, Refused}
 use Rattle.wire.proofs.OutputLaws.{AllHold}
-use Rattle.wire.specs.declared.Written.{Written}
-use Rattle.wire.specs.declared.Written.TheVariants.{To, Refused}
 use Rattle.vlq.specs.Vlq.{limit}
 use Rattle.types.specs.declared.Network.{Network}
 use Rattle.handshake.specs.Value.{entry_bytes, handshake_bytes, short_strings, utf8_strings, few_features, lengths_within, entries_asked}

@@ -1,8 +1,7 @@
 -- The writers of messages: what each is given, what that means by value, its questions, and the bytes it writes.
 use Rattle.std.specs.Prelude.{ℕ, ◌+◌, ◌*◌, ◌/◌, Bool, true, ◌&&◌, List, [], ◌∷◌, map, length, get_or}
 use Rattle.wire.specs.Bytes.{every}
-use Rattle.wire.specs.Output.{ask, written}
-use Rattle.wire.specs.declared.Written.{Written}
+use Rattle.wire.specs.Output.{ask, written, Written}
 use Rattle.types.specs.declared.Network.{Network}
 use Rattle.frame.specs.Frame.{frame_bytes}
 use Rattle.handshake.specs.Tables.{Tables, rows, bytes_at, entry_rows, entries_of, whole_rows, tables_whole, inside, entry_inside}

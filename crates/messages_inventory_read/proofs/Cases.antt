@@ -1,14 +1,13 @@
 -- Document 01, "Questions", Caller: an id by index, inside and outside, and only once the body has been read.
-use Rattle.std.specs.Prelude.{ℕ, List, [], ◌∷◌, ◌++◌, map, ◌≡◌, refl, replicate}
+use Rattle.std.specs.Prelude.{ℕ, List, [], ◌∷◌, ◌++◌, map, ◌≡◌, refl, replicate, Ok, Err}
 use Rattle.wire.specs.Reader.{Answer, got, refused, Segment, fold, list_of}
+use Rattle.wire.specs.declared.Refusal.TheVariants.{LengthTooLarge, InvalidUtf8, FrameTooShort, BadMagic}
+use Rattle.types.specs.Answers.{body_answer}
+use Rattle.vlq.specs.Answers.{read_answer}
 use Rattle.vlq.specs.Vlq.{groups, vlq, vlq_length}
 use Rattle.messages.specs.Message.{count, inventory_header}
-use Rattle.messages_inventory_read.specs.Answers.{inventory_of, id_answer, count_answer, header_answer, inventory_answer}
+use Rattle.messages_inventory_read.specs.Answers.{inventory_of, id_answer, header_answer}
 use Rattle.messages_inventory_read.specs.declared.Inventory.{Inventory}
-use Rattle.messages_inventory_read.specs.declared.InventoryRead.TheVariants as InventoryReads
-use Rattle.messages_inventory_read.specs.declared.CountRead.TheVariants as CountReads
-use Rattle.messages_inventory_read.specs.declared.HeaderRead.TheVariants as HeaderReads
-use Rattle.messages_inventory_read.specs.declared.IdRead.TheVariants as IdReads
 use Rattle.messages_inventory_read.specs.Parts.{items, items_start, item_by_index, item_at, id_at}
 
 pub record Case (A : Type 0) : Type 0 where
@@ -46,12 +45,12 @@ unfolding items_start inventory_header count fold list_of groups vlq vlq_length
 inventory-given = refl
 
 pub all_answers : (i : Inventory) →
-    (id_answer (IdReads.Value (record { 0 = 5 })) ≡ got 5 37)
-    × (id_answer (IdReads.Refused 3) ≡ refused 3)
-    × (count_answer (CountReads.Value 6 (record { at = 7 })) ≡ got 6 7)
-    × (count_answer (CountReads.Refused 4) ≡ refused 4)
-    × (header_answer (HeaderReads.Value (record { modifier_type = 8; count = 9; start = record { 0 = 10 } })) ≡ got (record { type = 8; count = 9 }) 10)
-    × (header_answer (HeaderReads.Refused 5) ≡ refused 5)
-    × (inventory_answer (InventoryReads.Value i (record { 0 = 11 })) ≡ got i 11)
-    × (inventory_answer (InventoryReads.Refused 6) ≡ refused 6)
+    (id_answer (Ok (record { 0 = 5 })) ≡ got 5 37)
+    × (id_answer (Err LengthTooLarge) ≡ refused 3)
+    × (read_answer {A = ℕ} (Ok (6, record { at = 7 })) ≡ got 6 7)
+    × (read_answer {A = ℕ} (Err InvalidUtf8) ≡ refused 4)
+    × (header_answer (Ok (record { modifier_type = 8; count = 9; start = record { 0 = 10 } })) ≡ got (record { type = 8; count = 9 }) 10)
+    × (header_answer (Err FrameTooShort) ≡ refused 5)
+    × (body_answer {A = Inventory} (Ok (i, record { 0 = 11 })) ≡ got i 11)
+    × (body_answer {A = Inventory} (Err BadMagic) ≡ refused 6)
 all_answers i = (refl, refl, refl, refl, refl, refl, refl, refl)

@@ -6,11 +6,14 @@ ghost use Rattle.std.specs.Prelude.{◌≡◌};
 ghost use Rattle.wire.specs.Reader.{map_answer, part};
 ghost use Rattle.messages.specs.Message.{count, inventory_header};
 ghost use Rattle.messages_inventory_read.specs.Parts.{items, id_at};
-ghost use Rattle.messages_inventory_read.specs.Answers.{inventory_in, id_of, inventory_answer, header_answer, count_answer, id_answer};
+ghost use Rattle.messages_inventory_read.specs.Answers.{inventory_in, id_of, header_answer, id_answer};
+ghost use Rattle.types.specs.Answers.{body_answer};
+ghost use Rattle.vlq.specs.Answers.{read_answer};
 
 use messages::{ID_SIZE, MAX_INV_OBJECTS};
-use types::BodyPlace;
-use vlq::{ByteRead, Cursor, VlqRead};
+use types::{BodyPlace, BodyRead};
+use vlq::{Cursor, Read};
+use wire::Refusal;
 
 // The ids or payloads of a body: its type byte, how many there are, and the place of the first.
 #[derive(Clone, Copy)]
@@ -20,98 +23,55 @@ pub struct Inventory {
     pub start: BodyPlace,
 }
 
-// What is given of a body and the place where its reading ends, or the refusal's number.
-#[derive(Clone, Copy)]
-pub enum InventoryRead {
-    Value(Inventory, BodyPlace),
-    Refused(u8),
-}
-
-// The place of an id.
-#[derive(Clone, Copy)]
-pub enum IdRead {
-    Value(BodyPlace),
-    Refused(u8),
-}
-
-// A count and the next place.
-#[derive(Clone, Copy)]
-pub enum CountRead {
-    Value(usize, Cursor),
-    Refused(u8),
-}
-
-// What is given of a body from its type byte and count alone, or the refusal's number.
-#[derive(Clone, Copy)]
-pub enum HeaderRead {
-    Value(Inventory),
-    Refused(u8),
-}
-
 // A ModifierRequest or Inv body: a type byte, a count and ids of 32 bytes.
-pub fn parse_inv_body(body: &[u8]) -> InventoryRead
-    ensures { inventory_answer result ≡ map_answer (inventory_in body.now) (items (λ before. part 32) body.now 0) }
+#[tactic(auto, using(std::proofs::lemmas::Result::err_from_is_err_and), unfolding(crate::specs::Parts::items, wire::specs::Reader::map_answer))]
+pub fn parse_inv_body(body: &[u8]) -> BodyRead<Inventory>
+    ensures { body_answer result ≡ map_answer (inventory_in body.now) (items (λ before. part 32) body.now 0) }
 {
-    match read_header(body) {
-        HeaderRead::Value(ids) => {
-            let start = ids.start;
-            let size = ID_SIZE * ids.count;
-            if body.len() - start.0 < size {
-                return InventoryRead::Refused(1);
-            }
-            InventoryRead::Value(ids, BodyPlace(start.0 + size))
-        }
-        HeaderRead::Refused(m) => InventoryRead::Refused(m),
+    let ids = read_header(body)?;
+    let start = ids.start.0;
+    let size = ID_SIZE * ids.count;
+    if body.len() - start < size {
+        return Err(Refusal::UnexpectedEof);
     }
+    Ok((ids, BodyPlace(start + size)))
 }
 
 // The place of an id of a ModifierRequest or Inv body, by index.
-pub fn id_by_index(body: &[u8], index: usize) -> IdRead
+pub fn id_by_index(body: &[u8], index: usize) -> Result<BodyPlace, Refusal>
     ensures { id_answer result ≡ map_answer id_of (id_at index body.now) }
 {
-    match parse_inv_body(body) {
-        InventoryRead::Value(ids, end) => {
-            if ids.count <= index {
-                return IdRead::Refused(12);
-            }
-            let start = ids.start;
-            IdRead::Value(BodyPlace(start.0 + ID_SIZE * index))
-        }
-        InventoryRead::Refused(m) => IdRead::Refused(m),
+    let (ids, _) = parse_inv_body(body)?;
+    if ids.count <= index {
+        return Err(Refusal::Outside);
     }
+    Ok(BodyPlace(ids.start.0 + ID_SIZE * index))
 }
 
 // A count of at most cap.
-pub fn read_count(body: &[u8], c: Cursor, cap: usize) -> CountRead
-    ensures { count_answer result ≡ count cap body.now c.at }
+#[tactic(auto, using(std::proofs::lemmas::Result::err_from_is_err_and), unfolding(messages::specs::Message::count))]
+pub fn read_count(body: &[u8], c: Cursor, cap: usize) -> Read<usize>
+    ensures { read_answer result ≡ count cap body.now c.at }
 {
-    match c.read_vlq_length(body) {
-        VlqRead::Value(n, d) => {
-            let count = n as usize;
-            if count <= cap {
-                CountRead::Value(count, d)
-            } else {
-                CountRead::Refused(10)
-            }
-        }
-        VlqRead::Refused(m) => CountRead::Refused(m),
+    let (n, d) = c.read_vlq_length(body)?;
+    let count = n as usize;
+    if count <= cap {
+        Ok((count, d))
+    } else {
+        Err(Refusal::CountExceedsCap)
     }
 }
 
 // A type byte and a count.
-pub fn read_header(body: &[u8]) -> HeaderRead
+#[tactic(auto, using(std::proofs::lemmas::Result::err_from_is_err_and), unfolding(messages::specs::Message::inventory_header))]
+pub fn read_header(body: &[u8]) -> Result<Inventory, Refusal>
     ensures { header_answer result ≡ inventory_header body.now 0 }
 {
-    let c = Cursor { at: 0 };
-    match c.read_byte(body) {
-        ByteRead::Value(b, d) => match read_count(body, d, MAX_INV_OBJECTS) {
-            CountRead::Value(count, e) => HeaderRead::Value(Inventory {
-                modifier_type: b,
-                count,
-                start: BodyPlace(e.at),
-            }),
-            CountRead::Refused(m) => HeaderRead::Refused(m),
-        },
-        ByteRead::Refused(m) => HeaderRead::Refused(m),
-    }
+    let (modifier_type, c) = Cursor { at: 0 }.read_byte(body)?;
+    let (count, d) = read_count(body, c, MAX_INV_OBJECTS)?;
+    Ok(Inventory {
+        modifier_type,
+        count,
+        start: BodyPlace(d.at),
+    })
 }

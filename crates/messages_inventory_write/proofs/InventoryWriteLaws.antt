@@ -1,19 +1,18 @@
 -- Laws of the writers of ModifierRequest and Inv: what is said by sizes is what `message_written` says; and the lengths
 -- of their bodies.
-use Rattle.std.specs.Prelude.{ℕ, zero, suc, ◌+◌, ◌*◌, ◌≤◌, true, ◌≡◌, refl, leb, length, get_or, set}
-use Rattle.std.proofs.Common.{arith, sym, ap, ◌∙◌, length-set, length-append, leb-true}
+use Rattle.std.specs.Prelude.{ℕ, zero, suc, ◌+◌, ◌*◌, ◌≤◌, true, ◌≡◌, refl, leb, length, get_or}
+use Rattle.std.proofs.Common.{arith, sym, ap, ◌∙◌, length-append, leb-true}
 use mathlib.Core.List.{List, [], ◌∷◌, ◌++◌, map, flat_map}
 use Rattle.std.proofs.lemmas.List.{length-map}
 use Rattle.wire.specs.Bytes.{every}
 use Rattle.wire.proofs.BytesLaws.{and-true}
-use Rattle.wire.specs.declared.Written.{Written}
-use Rattle.wire.specs.declared.Written.TheVariants.{To}
-use Rattle.wire.specs.Output.{asked, written, output_after, Wrote}
-use Rattle.wire.proofs.OutputLaws.{wrote_byte, wrote_then, wrote_checked, asked-to}
+use Rattle.wire.specs.Output.{To, asked, written}
+use Rattle.wire.proofs.OutputLaws.{asked-to}
 use Rattle.vlq.specs.Vlq.{limit, vlq_bytes}
+use Rattle.vlq.proofs.VlqLaws.{vlq_ten}
 use Rattle.types.specs.declared.Network.{Network}
 use Rattle.frame_write.specs.Asked.{frame_length}
-use Rattle.frame_write.specs.FrameWriteLaws.{length-frame}
+use Rattle.frame_write.specs.FrameWriteLaws.{length-frame, frame_length-body}
 use Rattle.handshake.specs.Tables.{rows, bytes_at, inside}
 use Rattle.handshake.proofs.TablesLaws.{length-bytes_at}
 use Rattle.handshake.specs.Value.{entries_asked}
@@ -30,12 +29,12 @@ unfolding ids_of
 length_ids ids buffer = length-map (id_places ids) (λ at. bytes_at buffer at 32) ∙ length-rows (λ k. get_or ids k 0) 0 (length ids)
 
 pub said-request : (network : Network) (type : ℕ) (ids buffer out : List ℕ) (at : ℕ)
-    → ids_written_for type ids buffer (length out) at ≡ message_written network 0 (write_modifier_request type ids buffer) out at
+    → message_written network 0 (write_modifier_request type ids buffer) out at ≡ ids_written_for type ids buffer (length out) at
 unfolding ids_written_for message_written written asked message_whole message_inside message_asked value_of Values.message_entries payloads_within count_within code_free entries_asked every body_bytes code_of inside
 said-request network type ids buffer out at = rw (length-frame network 22 (ids_bytes type (ids_of ids buffer)), length_ids ids buffer)
 
 pub said-inv : (network : Network) (type : ℕ) (ids buffer out : List ℕ) (at : ℕ)
-    → ids_written_for type ids buffer (length out) at ≡ message_written network 0 (write_inv type ids buffer) out at
+    → message_written network 0 (write_inv type ids buffer) out at ≡ ids_written_for type ids buffer (length out) at
 unfolding ids_written_for message_written written asked message_whole message_inside message_asked value_of Values.message_entries payloads_within count_within code_free entries_asked every body_bytes code_of inside
 said-inv network type ids buffer out at = rw (length-frame network 55 (ids_bytes type (ids_of ids buffer)), length_ids ids buffer)
 
@@ -70,21 +69,15 @@ length-ids_bytes type ids buffer h = omega (arith, length_parts type ids buffer,
 
 -- ---- a writer that accepted
 
-pub asked-ids : (type : ℕ) (ids buffer : List ℕ) (len at : ℕ) {e : ℕ} {r : Written} → r ≡ ids_written_for type ids buffer len at → r ≡ To e
+pub asked-ids : (type : ℕ) (ids buffer : List ℕ) (len at : ℕ) {e : ℕ} → To e ≡ ids_written_for type ids buffer len at
     → (ids_inside ids (length buffer) ≡ true)
     × ((length (ids_bytes type (ids_of ids buffer)) ≤ limit) × (at + frame_length (length (ids_bytes type (ids_of ids buffer))) ≤ len))
 unfolding ids_written_for
-asked-ids type ids buffer len at {e} says p =
+asked-ids type ids buffer len at {e} says =
     let n : ℕ = length (ids_bytes type (ids_of ids buffer)) in
-    let h = (asked-to _ (To (at + frame_length n)) e (sym says ∙ p)).0 in
+    let h = (asked-to _ (To (at + frame_length n)) e (sym says)).0 in
     (h.1.0, (leb-true n limit h.1.1.1.0, leb-true (at + frame_length n) len h.1.1.1.1.0))
 
--- ---- what was stored
+pub ruleset inventory_laws = (said-request, said-inv, asked-ids)
 
--- a type byte, and a count after it
-pub count_stored : (type n : ℕ) (out : List ℕ) (at : ℕ) {r : Written} {mid : List ℕ} → at + 1 + length (vlq_bytes n) ≤ length out
-    → r ≡ written [] [] (set out at type) (at + 1) (vlq_bytes n) → mid ≡ output_after r (set out at type) (at + 1) (vlq_bytes n)
-    → Wrote out at ((type ∷ []) ++ vlq_bytes n) (at + 1 + length (vlq_bytes n)) mid
-count_stored type n out at room says left =
-    wrote_then (wrote_byte out at type)
-    (wrote_checked [] [] (set out at type) (at + 1) (vlq_bytes n) says left tt tt (omega (arith, length-set out at type)))
+pub ruleset lengths = (ids_parts, length_parts, length-ids_bytes, vlq_ten, frame_length-body)

@@ -3,9 +3,7 @@
 use Rattle.std.specs.Prelude.{ℕ, ◌≡◌, refl, replicate}
 use mathlib.Core.List.{List, [], ◌∷◌, flat_map}
 use Rattle.wire.specs.Bytes.{big_endian_bytes, every}
-use Rattle.wire.specs.declared.Written.{Written}
-use Rattle.wire.specs.declared.Written.TheVariants.{To, Refused}
-use Rattle.wire.specs.Output.{put, asked, written, output_after}
+use Rattle.wire.specs.Output.{Written, To, Refused, put, asked, written, output_after}
 use Rattle.vlq.specs.Vlq.{vlq_bytes, vlq_in}
 use Rattle.types.specs.declared.Network.TheVariants.{Mainnet}
 use Rattle.frame.specs.Frame.{checked_bytes, frame_bytes}

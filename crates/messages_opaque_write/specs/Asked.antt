@@ -2,8 +2,7 @@
 -- `message_written` that are not answered "yes" by what the message is.
 -- Only for laws, proofs and private functions: no public contract and no theorem cites what follows.
 use Rattle.std.specs.Prelude.{ℕ, [], ◌∷◌, leb}
-use Rattle.wire.specs.Output.{ask}
-use Rattle.wire.specs.declared.Written.{Written}
+use Rattle.wire.specs.Output.{ask, Written}
 use Rattle.vlq.specs.Vlq.{limit}
 use Rattle.wire_output.specs.Asked.{written_for}
 use Rattle.frame_write.specs.Asked.{frame_length}

@@ -22,3 +22,5 @@ module _ (network : Network) (cap : ℕ) (s : List ℕ) {n at : ℕ} (q : count 
   pub peers-refused : {m : ℕ} → list_of n (λ before. entry) s at ≡ refused m → refused m ≡ map_answer (peers_of network s) (entries cap s 0)
   unfolding entries
   peers-refused r = rw (q, r, map-refusal)
+
+pub ruleset peers_answers = (peers-got, peers-refused)

@@ -9,9 +9,6 @@ use Rattle.handshake.specs.Entry.{Entry, version, address_if, entry}
 use Rattle.messages.specs.Message.{count}
 use Rattle.messages_inventory_read.specs.Parts.{item_by_index}
 use Rattle.messages_peers_read.specs.Parts.{entries, entries_start, entry_at}
-use Rattle.handshake_read.specs.declared.PeerSpec.{PeerSpec}
-use Rattle.messages_peers_read.specs.Answers.{peer_entry_answer}
-use Rattle.messages_peers_read.specs.declared.PeerEntryRead.TheVariants as PeerEntryReads
 
 -- under the cap 64
 pub record Case : Type 0 where
@@ -54,7 +51,3 @@ cases =
 pub all-cases : map (λ (c : Case). entry_at 64 c.index c.body) cases ≡ map (λ (c : Case). c.answer) cases
 unfolding cases entry_at entries entries_start item_by_index count fold list_of groups vlq vlq_length string short_string utf8_from utf8 version address_if entry
 all-cases = refl
-
--- what the code's answers mean
-pub all_answers : (p : PeerSpec) → (peer_entry_answer (PeerEntryReads.Value p (record { 0 = 5 })) ≡ got p 5) × (peer_entry_answer (PeerEntryReads.Refused 3) ≡ refused 3)
-all_answers p = (refl, refl)

@@ -1,4 +1,5 @@
--- Laws of the writer of Peers: what is said by sizes is what `message_written` says, and what is known once it accepted.
+-- Laws of the writer of Peers: what is said by sizes is what `message_written` says, and what is known once it
+-- accepted.
 use Rattle.std.specs.Prelude.{ℕ, ◌+◌, ◌-◌, ◌/◌, ◌≤◌, Bool, true, false, ◌&&◌, ◌≡◌, leb, take, drop}
 use Rattle.std.proofs.Common.{arith, true≢false, sym, ◌∙◌, length-append}
 use mathlib.Core.List.{List, [], ◌∷◌, ◌++◌, flat_map}
@@ -8,11 +9,8 @@ use Rattle.std.proofs.lemmas.List.{length-map}
 use borrow.Author.Tests.{le-leb, lt-leb, leb-true, leb-false}
 use Rattle.wire.specs.Bytes.{every}
 use Rattle.wire.proofs.BytesLaws.{and-true}
-use Rattle.wire.specs.declared.Written.{Written}
-use Rattle.wire.specs.declared.Written.TheVariants.{To}
-use Rattle.wire.specs.declared.Size.TheVariants.{Refused as Unsized}
-use Rattle.wire.specs.Output.{put, ask, asked, sized, written, output_after, Wrote}
-use Rattle.wire.proofs.OutputLaws.{Accepted, length-put, wrote_checked, written-accepted}
+use Rattle.wire.specs.Output.{Written, To, Unsized, put, ask, asked, sized, written, output_after, Wrote}
+use Rattle.wire.proofs.OutputLaws.{Accepted, wrote_length, written-accepted}
 use Rattle.wire.proofs.StandingLaws.{after-put, put-behind}
 use Rattle.vlq.specs.Vlq.{limit, vlq_bytes}
 use Rattle.vlq.proofs.VlqLaws.{vlq_pos}
@@ -156,13 +154,11 @@ module _ (network : Network) (l : Tables) (out : List ℕ) (at : ℕ) {r : Writt
     frame-room = omega (arith, yes.room, length-peers l, frame_length-body (length (peers_bytes l)) (omega (arith, length-peers l, vlq_pos (length l.entries / 12))))
 
     -- then the count before them
-    module _ {s : Written} {two : List ℕ} (says2 : s ≡ written [] [] one (at + 13) count) (left2 : two ≡ output_after s one (at + 13) count) where
+    module _ {f : ℕ} {two : List ℕ} (w : Wrote one (at + 13) count f two) where
       body_stored : Wrote out (at + 13) (peers_bytes l) (at + 13 + length (peers_bytes l)) two
       unfolding output_after
       body_stored =
           let q : one ≡ put out (at + 13 + length count) rows = rw p at left in
-          let size : length one ≡ length out = ap length q ∙ length-put out (at + 13 + length count) rows in
-          let w = wrote_checked [] [] one (at + 13) count says2 left2 tt tt (omega (arith, yes.room)) in
           record {
             end = refl;
             bytes = w.bytes ∙ ap (λ (o : List ℕ). put o (at + 13) count) q ∙ put-behind out (at + 13) count rows (at + 13 + length count) refl yes.room ∙ ap (put out (at + 13)) (sym (peers_parts l));
@@ -171,8 +167,14 @@ module _ (network : Network) (l : Tables) (out : List ℕ) (at : ℕ) {r : Writt
       -- and then the frame was closed around both
       pub frame_stored : {t : Written} {last : List ℕ} → t ≡ frame_written_for (length two) at (e - (at + 13))
           → last ≡ output_after t two at (frame_bytes network 2 (take (e - (at + 13)) (drop (at + 13) two)))
-          → last ≡ output_after (To e) out at (frame_bytes network 2 (peers_bytes l))
+          → (t ≡ To e) × (last ≡ output_after t out at (frame_bytes network 2 (peers_bytes l)))
+      unfolding frame_written_for asked
       frame_stored says3 left3 =
-          let z : e - (at + 13) ≡ length (peers_bytes l) = omega (arith, body_end) in
-          after-put out at (frame_bytes network 2 (peers_bytes l)) refl
-          (closed network 2 out at (peers_bytes l) frame-room body_stored small (rw z at says3) (rw z at left3))
+          let n = length (peers_bytes l) in
+          let z : e - (at + 13) ≡ n = omega (arith, body_end) in
+          let size = wrote_length body_stored in
+          let end : at + frame_length n ≡ e = omega (arith, body_end, frame_length-body n (omega (arith, length-peers l, vlq_pos (length l.entries / 12)))) in
+          let q = rw z at says3
+          ∙ rw (le-leb at (length two) (omega (arith, size, yes.room)), le-leb n limit small, le-leb (at + frame_length n) (length two) (omega (arith, size, frame-room)))
+          (ap To end) in
+          (q, after-put out at (frame_bytes network 2 (peers_bytes l)) q (closed network 2 out at (peers_bytes l) frame-room body_stored small (rw z at says3) (rw z at left3)))

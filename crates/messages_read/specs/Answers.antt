@@ -1,14 +1,11 @@
--- What the answer of the code means, and what the code gives of a reading: places, lengths and counts.
+-- What the code gives of a reading: places, lengths and counts.
 use Rattle.std.specs.Prelude.{ℕ, List}
-use Rattle.wire.specs.Reader.{Answer, got, refused}
 use Rattle.types.specs.declared.Network.{Network}
 use Rattle.messages.specs.Message as Bodies
 use Rattle.messages_inventory_read.specs.Answers.{inventory_of}
 use Rattle.messages_peers_read.specs.Answers.{peers_of}
 use Rattle.messages_read.specs.declared.Message.{Message}
 use Rattle.messages_read.specs.declared.Message.TheVariants as Messages
-use Rattle.messages_read.specs.declared.MessageRead.{MessageRead}
-use Rattle.messages_read.specs.declared.MessageRead.TheVariants as MessageReads
 
 -- what is given of a reading of the body s
 abbrev pub message_of : Network → List ℕ → Bodies.Message → Message
@@ -19,8 +16,3 @@ message_of network s (Bodies.modifier_response type l) = Messages.ModifierRespon
 message_of network s (Bodies.inv type l) = Messages.Inv (inventory_of s type l)
 message_of network s (Bodies.sync_info body) = Messages.SyncInfo
 message_of network s (Bodies.unknown body) = Messages.Unknown
-
--- what an answer means
-abbrev pub message_answer : MessageRead → Answer Message
-message_answer (MessageReads.Value m end) = got m end.0
-message_answer (MessageReads.Refused m) = refused m

@@ -1,14 +1,14 @@
 -- Document 01, "Questions", Caller: a payload by index, inside and outside, and only once the body has been read.
-use Rattle.std.specs.Prelude.{ℕ, ◌+◌, List, [], ◌∷◌, ◌++◌, map, ◌≡◌, refl}
+use Rattle.std.specs.Prelude.{ℕ, ◌+◌, List, [], ◌∷◌, ◌++◌, map, ◌≡◌, refl, Ok, Err}
 use Rattle.wire.specs.Reader.{Answer, got, refused, Segment, fold, list_of}
+use Rattle.wire.specs.declared.Refusal.TheVariants.{InvalidUtf8, FrameTooShort}
+use Rattle.types.specs.Answers.{body_answer}
 use Rattle.vlq.specs.Vlq.{groups, vlq, vlq_length}
 use Rattle.messages.specs.Message.{Payload, count, inventory_header, total, payload_after, payload}
 use Rattle.messages_inventory_read.proofs.Cases.{Case, case, id}
 use Rattle.messages_inventory_read.specs.Parts.{items, items_start, item_by_index, item_at}
-use Rattle.messages_response_read.specs.Answers.{payload_sum, payload_answer, payload_by_index_answer}
+use Rattle.messages_response_read.specs.Answers.{payload_sum}
 use Rattle.messages_response_read.specs.declared.Payload as Given
-use Rattle.messages_response_read.specs.declared.PayloadRead.TheVariants as PayloadReads
-use Rattle.messages_response_read.specs.declared.PayloadByIndexRead.TheVariants as PayloadByIndexReads
 use Rattle.messages_response_read.specs.Parts.{payload_at}
 
 abbrev found : ℕ → ℕ → List ℕ → ℕ → Answer Payload
@@ -42,8 +42,8 @@ pub sum-given : (id : Segment) → (payload_sum 20 (record { id = id; body = rec
 sum-given id = refl
 
 pub all_answers : (p : Given.Payload) →
-    (payload_by_index_answer (PayloadByIndexReads.Value p (record { 0 = 6 })) ≡ got p 6)
-    × (payload_by_index_answer (PayloadByIndexReads.Refused 4) ≡ refused 4)
-    × (payload_answer (PayloadReads.Value p (record { 0 = 7 }) 8) ≡ got (p, 8) 7)
-    × (payload_answer (PayloadReads.Refused 5) ≡ refused 5)
+    (body_answer {A = Given.Payload} (Ok (p, record { 0 = 6 })) ≡ got p 6)
+    × (body_answer {A = Given.Payload} (Err InvalidUtf8) ≡ refused 4)
+    × (body_answer {A = Given.Payload × ℕ} (Ok ((p, 8), record { 0 = 7 })) ≡ got (p, 8) 7)
+    × (body_answer {A = Given.Payload × ℕ} (Err FrameTooShort) ≡ refused 5)
 all_answers p = (refl, refl, refl, refl)

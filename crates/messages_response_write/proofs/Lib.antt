@@ -1,3 +1,2 @@
 pub mod LengthLoop
-pub mod Stores
 pub mod ResponseLaws

@@ -10,9 +10,7 @@ use Rattle.std.proofs.lemmas.List.{length-map}
 use borrow.Author.Tests.{leb-true}
 use Rattle.wire.specs.Bytes.{every}
 use Rattle.wire.proofs.BytesLaws.{and-true}
-use Rattle.wire.specs.declared.Written.{Written}
-use Rattle.wire.specs.declared.Written.TheVariants.{To}
-use Rattle.wire.specs.Output.{asked, written}
+use Rattle.wire.specs.Output.{Written, To, asked, written}
 use Rattle.wire.proofs.OutputLaws.{asked-to}
 use Rattle.vlq.specs.Vlq.{limit, vlq_bytes}
 use Rattle.types.specs.declared.Network.{Network}

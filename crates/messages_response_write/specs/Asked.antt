@@ -3,8 +3,7 @@
 -- Only for laws, proofs and private functions: no public contract and no theorem cites what follows.
 use Rattle.std.specs.Prelude.{ℕ, ◌+◌, ◌/◌, Bool, List, [], ◌∷◌, map, leb, length}
 use Rattle.wire.specs.Bytes.{every}
-use Rattle.wire.specs.Output.{ask}
-use Rattle.wire.specs.declared.Written.{Written}
+use Rattle.wire.specs.Output.{ask, Written}
 use Rattle.vlq.specs.Vlq.{limit, vlq_bytes}
 use Rattle.wire_output.specs.Asked.{written_for}
 use Rattle.frame_write.specs.Asked.{frame_length}

@@ -5,11 +5,10 @@
 ghost use Rattle.std.specs.Prelude.{true, ◌&&◌, ◌≡◌, ◌+◌, ◌*◌, ◌/◌, ◌≤◌, leb, length};
 ghost use mathlib.Core.List.{flat_map};
 ghost use Rattle.wire.specs.Bytes.{every};
-ghost use Rattle.wire.specs.Output.{put, output_after, Wrote};
+ghost use Rattle.wire.specs.Output.{said, put, output_after, Wrote};
 ghost use Rattle.vlq.specs.Vlq.{limit, vlq_bytes};
 ghost use Rattle.frame.specs.Frame.{frame_bytes};
 ghost use Rattle.frame_write.specs.Asked.{frame_length};
-ghost use Rattle.handshake.specs.Tables.{bytes_at};
 ghost use Rattle.messages.specs.Message.{max_inv_objects};
 ghost use Rattle.messages.specs.Value.{payload_bytes};
 ghost use Rattle.messages.specs.Writes.{payload_row_size, payload_row, payload_rows, payload_from_row, payload_inside, write_modifier_response, value_of, message_bytes, message_written};
@@ -17,9 +16,12 @@ ghost use Rattle.messages_response_write.specs.Asked.{payloads_of, row_within, r
 ghost use Rattle.messages_response_write.specs.Asked.{row_length, rows_length};
 
 use frame::HEADER_SIZE;
+use frame_write::{ask_frame, close_frame};
 use messages::{ID_SIZE, MAX_INV_OBJECTS, MODIFIER_RESPONSE, PAYLOAD_ROW_SIZE, PayloadRow};
 use types::Network;
-use wire::{MAX_BODY_SIZE, Written};
+use vlq_write::{vlq_len, write_vlq};
+use wire::{MAX_BODY_SIZE, Refusal};
+use wire_part_write::write_part;
 
 // A type byte and the payloads whose rows are given: the place of an id, and the place and length of its bytes in the
 // buffer.
@@ -30,15 +32,13 @@ pub fn write_modifier_response(
     modifier_type: u8,
     payloads: &[u32],
     buffer: &[u8],
-) -> Written
-    ensures value { result ≡ message_written network 0 (write_modifier_response modifier_type payloads.now buffer.now) out.old at }
-    ensures out_after { out.new ≡ output_after result out.old at (message_bytes network (value_of (write_modifier_response modifier_type payloads.now buffer.now))) }
+) -> Result<usize, Refusal>
+    ensures value { said result ≡ message_written network 0 (write_modifier_response modifier_type payloads.now buffer.now) out.old at }
+    ensures out_after { out.new ≡ output_after (said result) out.old at (message_bytes network (value_of (write_modifier_response modifier_type payloads.now buffer.now))) }
 {
-    let answer = ask_response(out.len(), at, modifier_type, payloads, buffer);
-    if let Written::To(_) = answer {
-        put_response(out, at, network, modifier_type, payloads, buffer);
-    }
-    answer
+    let end = ask_response(out.len(), at, modifier_type, payloads, buffer)?;
+    put_response(out, at, network, modifier_type, payloads, buffer);
+    Ok(end)
 }
 
 // What write_modifier_response says of an output of len bytes.
@@ -48,38 +48,35 @@ fn ask_response(
     modifier_type: u8,
     payloads: &[u32],
     buffer: &[u8],
-) -> Written
-    ensures { result ≡ response_written_for modifier_type payloads.now buffer.now len at }
+) -> Result<usize, Refusal>
+    ensures { said result ≡ response_written_for modifier_type payloads.now buffer.now len at }
 {
     if payloads.len() % PAYLOAD_ROW_SIZE != 0 {
-        return Written::Refused(16);
+        return Err(Refusal::BadTable);
     }
     if len < at {
-        return Written::Refused(12);
+        return Err(Refusal::Outside);
     }
     if !payloads_inside(payloads, buffer.len()) {
-        return Written::Refused(12);
+        return Err(Refusal::Outside);
     }
     if !payloads_within(payloads) {
-        return Written::Refused(3);
+        return Err(Refusal::LengthTooLarge);
     }
     if MAX_INV_OBJECTS < payloads.len() / PAYLOAD_ROW_SIZE {
-        return Written::Refused(10);
+        return Err(Refusal::CountExceedsCap);
     }
-    frame_write::ask_frame(len, at, response_len(payloads))
+    ask_frame(len, at, response_len(payloads))
 }
 
 // Are the id and the bytes of each row inside a buffer of len bytes?
 fn payloads_inside(payloads: &[u32], len: usize) -> bool
     ensures { result ≡ every (λ row. leb (row.id + 32) len && leb (row.at + row.len) len) (payload_rows payloads.now) }
 {
-    let n = payloads.len() / PAYLOAD_ROW_SIZE;
-    let mut k = 0;
-    while k < n {
+    for k in 0..payloads.len() / PAYLOAD_ROW_SIZE {
         if !payload_inside(payload_at(payloads, k), len) {
             return false;
         }
-        k += 1;
     }
     true
 }
@@ -88,23 +85,17 @@ fn payloads_inside(payloads: &[u32], len: usize) -> bool
 fn payload_inside(row: PayloadRow, len: usize) -> bool
     ensures { result ≡ leb (row.id + 32) len && leb (row.at + row.len) len }
 {
-    if len < row.id as usize + ID_SIZE {
-        return false;
-    }
-    row.at as usize + row.len as usize <= len
+    row.id as usize + ID_SIZE <= len && row.at as usize + row.len as usize <= len
 }
 
-// Is the length of each row within the limit?
+// Is the length of each row within the limit? A loop of its own: one over any test would need the test's contract here.
 fn payloads_within(payloads: &[u32]) -> bool
     ensures { result ≡ every row_within (payload_rows payloads.now) }
 {
-    let n = payloads.len() / PAYLOAD_ROW_SIZE;
-    let mut k = 0;
-    while k < n {
+    for k in 0..payloads.len() / PAYLOAD_ROW_SIZE {
         if MAX_BODY_SIZE < payload_at(payloads, k).len as usize {
             return false;
         }
-        k += 1;
     }
     true
 }
@@ -116,7 +107,7 @@ fn response_len(payloads: &[u32]) -> usize
     ensures { result ≡ 1 + length (vlq_bytes (length payloads.now / payload_row_size)) + rows_length (payload_rows payloads.now) }
 {
     let count = payloads.len() / PAYLOAD_ROW_SIZE;
-    1 + vlq_write::vlq_len(count as u64) + rows_len(payloads)
+    1 + vlq_len(count as u64) + rows_len(payloads)
 }
 
 // How many bytes the payloads are.
@@ -125,12 +116,9 @@ fn rows_len(payloads: &[u32]) -> usize
     requires payloads_value { every row_within (payload_rows payloads.now) ≡ true }
     ensures { (result ≡ rows_length (payload_rows payloads.now)) × (result ≤ 6555460000) }
 {
-    let n = payloads.len() / PAYLOAD_ROW_SIZE;
     let mut size = 0;
-    let mut k = 0;
-    while k < n {
+    for k in 0..payloads.len() / PAYLOAD_ROW_SIZE {
         size += row_len(payload_at(payloads, k));
-        k += 1;
     }
     size
 }
@@ -141,7 +129,7 @@ fn row_len(row: PayloadRow) -> usize
     ensures { (result ≡ row_length row) × (result ≤ 16388650) }
 {
     let n = row.len as u64;
-    ID_SIZE + vlq_write::vlq_len(n) + row.len as usize
+    ID_SIZE + vlq_len(n) + row.len as usize
 }
 
 // Row k of the table.
@@ -172,7 +160,7 @@ fn put_response(
 {
     let start = at + HEADER_SIZE;
     let end = put_body(out, start, modifier_type, payloads, buffer);
-    frame_write::close_frame(out, at, network, MODIFIER_RESPONSE, end - start);
+    close_frame(out, at, network, MODIFIER_RESPONSE, end - start).unwrap();
 }
 
 // Stores the type byte, the count and the payloads, and gives the place after them.
@@ -182,9 +170,9 @@ fn put_body(out: &mut [u8], at: usize, modifier_type: u8, payloads: &[u32], buff
     ensures { Wrote out.old at (response_bytes modifier_type payloads.now buffer.now) result out.new }
 {
     out[at] = modifier_type;
-    let count = (payloads.len() / PAYLOAD_ROW_SIZE) as u64;
-    vlq_write::write_vlq(out, at + 1, count);
-    put_rows(out, at + 1 + vlq_write::vlq_len(count), payloads, buffer)
+    let count = payloads.len() / PAYLOAD_ROW_SIZE;
+    let end = write_vlq(out, at + 1, count as u64).unwrap();
+    put_rows(out, end, payloads, buffer)
 }
 
 // Stores the payloads, one after the other, and gives the place after them.
@@ -193,12 +181,9 @@ fn put_rows(out: &mut [u8], at: usize, payloads: &[u32], buffer: &[u8]) -> usize
     requires buffer_in_bounds { at + length (flat_map payload_bytes (payloads_of payloads.now buffer.now)) ≤ length out.old }
     ensures { Wrote out.old at (flat_map payload_bytes (payloads_of payloads.now buffer.now)) result out.new }
 {
-    let n = payloads.len() / PAYLOAD_ROW_SIZE;
     let mut o = at;
-    let mut k = 0;
-    while k < n {
+    for k in 0..payloads.len() / PAYLOAD_ROW_SIZE {
         o = put_payload(out, o, payload_at(payloads, k), buffer);
-        k += 1;
     }
     o
 }
@@ -209,24 +194,10 @@ fn put_payload(out: &mut [u8], at: usize, row: PayloadRow, buffer: &[u8]) -> usi
     requires row_in_bounds { at + length (payload_bytes (payload_from_row buffer.now row)) ≤ length out.old }
     ensures { Wrote out.old at (payload_bytes (payload_from_row buffer.now row)) result out.new }
 {
-    let end = put_part(out, at, row.id as usize, ID_SIZE, buffer);
+    let id = row.id as usize;
+    let from = row.at as usize;
     let n = row.len as usize;
-    vlq_write::write_vlq(out, end, n as u64);
-    put_part(
-        out,
-        end + vlq_write::vlq_len(n as u64),
-        row.at as usize,
-        n,
-        buffer,
-    )
-}
-
-// Stores n bytes of the buffer from a place on, and gives the place after them.
-fn put_part(out: &mut [u8], at: usize, from: usize, n: usize, buffer: &[u8]) -> usize
-    requires n_in_bounds { from + n ≤ length buffer.now }
-    requires n_in_bounds_2 { at + n ≤ length out.old }
-    ensures { Wrote out.old at (bytes_at buffer.now from n) result out.new }
-{
-    wire_part_write::write_part(out, at, &buffer[from..from + n]);
-    at + n
+    let a = write_part(out, at, &buffer[id..id + ID_SIZE]).unwrap();
+    let b = write_vlq(out, a, n as u64).unwrap();
+    write_part(out, b, &buffer[from..from + n]).unwrap()
 }

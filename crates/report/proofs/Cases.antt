@@ -1,5 +1,5 @@
 -- Document 01, "At the edges": the report of the session of 20 bytes and of its cuts, and the longest input that is reported on.
-use Rattle.std.specs.Prelude.{◌≡◌, ℕ, List, [], ◌∷◌, map, length, take, replicate, refl}
+use Rattle.std.specs.Prelude.{◌≡◌, ℕ, List, [], ◌∷◌, map, length, take, replicate, Ok, Err, refl}
 use mathlib.Core.List.{flat_map}
 use Rattle.wire.specs.Bytes.{big_endian, big_endian_from, same_bytes}
 use Rattle.wire.specs.Reader.{fold, list_of}
@@ -15,7 +15,6 @@ use Rattle.messages.specs.Message.{peers, unknown, message}
 use Rattle.walk.specs.Walk as Walk
 use Rattle.walk.specs.Walk.{clean, stopped, step_to, onward, step, walk_in, walk, reading}
 use Rattle.walk.specs.Session.{message_fields, peers_verdict, no_verdict, message_verdict, handshake_item, message_item, frame_item, handshake_at, message_at, session_reading}
-use Rattle.report_input_read.specs.declared.Input.TheVariants.{Bytes, Failed}
 use Rattle.wire_text_write.specs.Text.{ascii, decimal_in, decimal}
 use Rattle.report_text.specs.Lines.{labelled_number, span, version_text, handshake_line, message_text, message_line, peers_line, stop_line, end_line}
 use Rattle.report_lines.specs.StepLines.{stop_text}
@@ -60,11 +59,11 @@ unfolding session_text
 too_long = refl
 
 -- the word, letter by letter, whatever stands in the buffer
-pub not-read : (buf : List ℕ) → input_text Failed buf ≡ 117 ∷ 110 ∷ 114 ∷ 101 ∷ 97 ∷ 100 ∷ 10 ∷ []
+pub not-read : {E : Type 0} (e : E) (buf : List ℕ) → input_text (Err e) buf ≡ 117 ∷ 110 ∷ 114 ∷ 101 ∷ 97 ∷ 100 ∷ 10 ∷ []
 unfolding input_text
-not-read buf = refl
+not-read e buf = refl
 
 -- of the buffer the bytes that were read
-pub ten_of_twenty : input_text (Bytes 10) session ≡ session_text (take 10 session)
+pub ten_of_twenty : (E : Type 0) → input_text {E = E} (Ok 10) session ≡ session_text (take 10 session)
 unfolding input_text
-ten_of_twenty = refl
+ten_of_twenty E = refl

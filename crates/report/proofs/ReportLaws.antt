@@ -1,5 +1,5 @@
 -- One step of the walk is one line: of the text, of a block, and of the lines to come.
-use Rattle.std.specs.Prelude.{◌≡◌, ℕ, zero, suc, ◌+◌, ◌-◌, ◌<◌, ◌≤◌, Bool, true, false, cond, List, [], ◌∷◌, ◌++◌, length, ◌==◌, nat_le}
+use Rattle.std.specs.Prelude.{◌≡◌, ℕ, zero, suc, ◌+◌, ◌-◌, ◌<◌, ◌≤◌, Bool, true, false, cond, List, [], ◌∷◌, ◌++◌, length, ◌==◌, nat_le, Option, Some, None}
 use Rattle.std.proofs.Common.{arith, sym, subst, ◌∙◌}
 use mathlib.Core.List.{flat_map, append_assoc, append-nil}
 use Rattle.std.proofs.Math.Logic.{⊎_elim}
@@ -21,7 +21,7 @@ use Rattle.walk.proofs.SessionLaws.{session_readers}
 use Rattle.walk_read.specs.Steps.{stream_place, step_of, item_of}
 use Rattle.walk_read.specs.declared.StepRead.{StepRead}
 use Rattle.report_lines.specs.StepLines.{line_of, handshake_item_line, message_of_line}
-use Rattle.report_lines.specs.NextLines.{next_of}
+use Rattle.report_lines.specs.NextLines.{place_after}
 use Rattle.report.specs.Report.{content_line, item_line, ending_line, reading_text, report_text, Block, line_then, block_of, reading_from, block_at}
 
 -- ---- the verdict of an item is that on its fields
@@ -85,12 +85,10 @@ module _ (network : Network) where
   content_line_lem s start end (message_fields code from (Bodies.sync_info body)) v n j = rw j
   content_line_lem s start end (message_fields code from (Bodies.unknown body)) v n j = rw j
 
-  item-next : (s : List ℕ) (start end : ℕ) (f : Fields) (v : Verdict) (at : StreamPlace) (n : ℕ)
-      → next_of (item_of network s start end f v) at n
-      ≡ record { len = length (line_of (item_of network s start end f v) n); at = stream_place end; more = true }
-  unfolding item_of next_of
-  item-next s start end (handshake_fields h) v at n = refl
-  item-next s start end (message_fields code from m) v at n = refl
+  item-next : (s : List ℕ) (start end : ℕ) (f : Fields) (v : Verdict) → place_after (item_of network s start end f v) ≡ Some (stream_place end)
+  unfolding item_of
+  item-next s start end (handshake_fields h) v = refl
+  item-next s start end (message_fields code from m) v = refl
 
 -- ---- one step, one line
 
@@ -99,23 +97,26 @@ module _ (network : Network) (cap : ℕ) (s : List ℕ) where
   From at = reading_from network cap s at
 
   -- the lines to come, their text, and what is laid of them in a room, where a step follows at a place
-  abbrev pub lines_from : ℕ → Bool → ℕ
-  lines_from at true = length (From at).items + 1
-  lines_from at false = 0
+  abbrev pub lines_from : Option StreamPlace → ℕ
+  lines_from (Some at) = length (From at.0).items + 1
+  lines_from None = 0
 
-  abbrev pub text_from : ℕ → Bool → List ℕ
-  text_from at true = reading_text (length s) (From at)
-  text_from at false = []
+  abbrev pub text_from : Option StreamPlace → List ℕ
+  text_from (Some at) = reading_text (length s) (From at.0)
+  text_from None = []
 
-  abbrev pub block_from : ℕ → ℕ → Bool → Block
-  block_from room at true = block_at network cap s room at
-  block_from room at false = record { text = []; at = at; more = false }
+  abbrev pub block_from : ℕ → Option StreamPlace → Block
+  block_from room (Some at) = block_at network cap s room at.0
+  block_from room None = record { text = []; at = None }
+
+  abbrev pub here : ℕ → Option StreamPlace
+  here at = Some (stream_place at)
 
   -- a step has one line: of the lines to come, of their text, and of a block with room for it
-  pub record OneLine (at : ℕ) (line : List ℕ) (end : ℕ) (more : Bool) : Type 0 where
-    pub counted : lines_from at true ≡ suc (lines_from end more)
-    pub told : text_from at true ≡ line ++ text_from end more
-    pub laid : (room : ℕ) → 192 ≤ room → block_from room at true ≡ line_then line (block_from (room - length line) end more)
+  pub record OneLine (at : ℕ) (line : List ℕ) (next : Option StreamPlace) : Type 0 where
+    pub counted : lines_from (here at) ≡ suc (lines_from next)
+    pub told : text_from (here at) ≡ line ++ text_from next
+    pub laid : (room : ℕ) → 192 ≤ room → block_at network cap s room at ≡ line_then line (block_from (room - length line) next)
 
   -- the reading from any place on is the step's answer there and, after an item, the reading from its end
   from_past : (at : ℕ) → length s < at → From at ≡ onward (session_step network cap s at) From
@@ -127,7 +128,7 @@ module _ (network : Network) (cap : ℕ) (s : List ℕ) where
   from_step at = ⊎_elim (from_past at) (λ (h : at ≤ length s). walk_step (session_readers network cap) s at h) (lt-or_ge (length s) at)
 
   item-one : (at : ℕ) (i : Item Content) → From at ≡ onward (item i) From
-      → OneLine at (item_line i) i.end true
+      → OneLine at (item_line i) (here i.end)
   unfolding onward block_at block_of flat_map
   item-one at i q =
       record {
@@ -137,7 +138,7 @@ module _ (network : Network) (cap : ℕ) (s : List ℕ) where
       }
 
   last_one : (at : ℕ) (e : Ending) → From at ≡ record { items = []; ending = e }
-      → OneLine at (ending_line (length s) e) at false
+      → OneLine at (ending_line (length s) e) None
   unfolding block_at block_of flat_map
   last_one at e q =
       record {
@@ -147,33 +148,33 @@ module _ (network : Network) (cap : ℕ) (s : List ℕ) where
       }
 
   -- what the code gives of a step
-  abbrev Told : StreamPlace → StepRead → Type 0
-  Told at r = OneLine at.0 (line_of r (length s)) (next_of r at (length s)).at.0 (next_of r at (length s)).more
+  abbrev Told : ℕ → StepRead → Type 0
+  Told at r = OneLine at (line_of r (length s)) (place_after r)
 
-  pub one_line : (at : StreamPlace) → Told at (step_of network s (session_step network cap s at.0))
-  unfolding step_of next_of line_of ending_line onward session_step
-  one_line at = go (session_step network cap s at.0) refl
+  pub one_line : (at : ℕ) → Told at (step_of network s (session_step network cap s at))
+  unfolding step_of line_of ending_line onward session_step
+  one_line at = go (session_step network cap s at) refl
     where
-      whole : {x : Walk.Step Content} → session_step network cap s at.0 ≡ x → From at.0 ≡ onward x From
-      whole q = from_step at.0 ∙ ap (λ (x : Walk.Step Content). onward x From) q
+      whole : {x : Walk.Step Content} → session_step network cap s at ≡ x → From at ≡ onward x From
+      whole q = from_step at ∙ ap (λ (x : Walk.Step Content). onward x From) q
 
-      an_item : (i : Item Content) → session_step network cap s at.0 ≡ item i
+      an_item : (i : Item Content) → session_step network cap s at ≡ item i
           → Told at (item_of network s i.start i.end i.holds.fields i.holds.verdict)
       an_item i q =
-          let j = subst (λ (x : Walk.Step Content). StepJudged network x) q (step-judged network cap s at.0) in
+          let j = subst (λ (x : Walk.Step Content). StepJudged network x) q (step-judged network cap s at) in
           let e = content_line_lem network s i.start i.end i.holds.fields i.holds.verdict (length s) j in
-          rw (item-next network s i.start i.end i.holds.fields i.holds.verdict at (length s), e)
-          (item-one at.0 i (whole q))
+          rw (item-next network s i.start i.end i.holds.fields i.holds.verdict, e)
+          (item-one at i (whole q))
 
-      go : (x : Walk.Step Content) → session_step network cap s at.0 ≡ x → Told at (step_of network s x)
+      go : (x : Walk.Step Content) → session_step network cap s at ≡ x → Told at (step_of network s x)
       go (item i) q = an_item i q
-      go clean_end q = last_one at.0 clean (whole q)
-      go (stop layer n k) q = last_one at.0 (stopped layer n k) (whole q)
-      go outside q = last_one at.0 unended (whole q)
+      go clean_end q = last_one at clean (whole q)
+      go (stop layer n k) q = last_one at (stopped layer n k) (whole q)
+      go outside q = last_one at unended (whole q)
 
   -- ---- from place 0 on
 
-  pub text-all : text_from 0 true ≡ report_text network cap s
+  pub text-all : text_from (here 0) ≡ report_text network cap s
   unfolding report_text session_reading reading
   text-all = refl
 
@@ -181,58 +182,57 @@ module _ (network : Network) (cap : ℕ) (s : List ℕ) where
 
   -- what a block has, and what is to come after it, was to come
   pub record Laid (at : ℕ) (b : Block) : Type 0 where
-    pub fewer : lines_from b.at b.more ≤ lines_from at true
-    pub told : text_from at true ≡ b.text ++ text_from b.at b.more
+    pub fewer : lines_from b.at ≤ lines_from (here at)
+    pub told : text_from (here at) ≡ b.text ++ text_from b.at
 
-  line-laid : {at end : ℕ} {line : List ℕ} (more : Bool) → OneLine at line end more → (room : ℕ)
-      → (more ≡ true → Laid end (block_at network cap s room end)) → Laid at (line_then line (block_from room end more))
-  line-laid {at} {end} {line} true o room rest =
-      let l = rest refl in
+  line-laid : {at : ℕ} {line : List ℕ} (next : Option StreamPlace) → OneLine at line next → (room : ℕ)
+      → ((end : StreamPlace) → next ≡ Some end → Laid end.0 (block_at network cap s room end.0)) → Laid at (line_then line (block_from room next))
+  line-laid {at} {line} (Some end) o room rest =
+      let l = rest end refl in
       record {
         fewer = omega (arith, l.fewer, o.counted);
         told = o.told ∙ ap (λ (t : List ℕ). line ++ t) l.told ∙ sym (append_assoc line _ _);
       }
-  line-laid {at} {end} {line} false o room rest =
+  line-laid {at} {line} None o room rest =
       record { fewer = omega arith; told = o.told ∙ sym (append-nil (line ++ [])) }
 
   full : (n room at : ℕ) (is : List (Item Content)) (e : Ending) → room < 192
-      → block_of n room at is e ≡ record { text = []; at = at; more = true }
+      → block_of n room at is e ≡ record { text = []; at = here at }
   unfolding block_of
   full n room at [] e h = rw (lt-leb 192 room h)
   full n room at (i ∷ is) e h = rw (lt-leb 192 room h)
 
   -- without room for a longest line there is none
-  pub block-full : (room at : ℕ) → room < 192 → block_at network cap s room at ≡ record { text = []; at = at; more = true }
+  pub block-full : (room at : ℕ) → room < 192 → block_at network cap s room at ≡ record { text = []; at = here at }
   unfolding block_at
   block-full room at h = full (length s) room at (From at).items (From at).ending h
 
-  one_fewer : {at end c : ℕ} {line : List ℕ} (more : Bool) → OneLine at line end more → more ≡ true → lines_from at true ≤ suc c → lines_from end true ≤ c
-  one_fewer true o m h = omega (arith, o.counted)
-  one_fewer false o m h = let z : ◌≡◌ {A = ℕ} 0 1 = cc in absurd (omega arith)
+  one_fewer : {at c : ℕ} {line : List ℕ} (next : Option StreamPlace) (end : StreamPlace) → OneLine at line next → next ≡ Some end
+      → lines_from (here at) ≤ suc c → lines_from (Some end) ≤ c
+  one_fewer next end o m h = let k = rw m at o.counted in omega (arith, k)
 
-  lay_one : {at end : ℕ} {line : List ℕ} {more : Bool} (room : ℕ) → 192 ≤ room → OneLine at line end more
-      → (more ≡ true → Laid end (block_at network cap s (room - length line) end)) → Laid at (block_at network cap s room at)
-  lay_one {line = line} {more = more} room g o rest = rw (o.laid room g) (line-laid more o (room - length line) rest)
+  lay_one : {at : ℕ} {line : List ℕ} {next : Option StreamPlace} (room : ℕ) → 192 ≤ room → OneLine at line next
+      → ((end : StreamPlace) → next ≡ Some end → Laid end.0 (block_at network cap s (room - length line) end.0)) → Laid at (block_at network cap s room at)
+  lay_one {line = line} {next = next} room g o rest = rw (o.laid room g) (line-laid next o (room - length line) rest)
 
-  lays_in : (c room at : ℕ) → lines_from at true ≤ c → Laid at (block_at network cap s room at)
+  lays_in : (c room at : ℕ) → lines_from (here at) ≤ c → Laid at (block_at network cap s room at)
   lays_in zero room at h = absurd (omega arith)
   lays_in (suc c) room at h =
       ⊎_elim
       (λ (l : room < 192). rw (block-full room at l) (record { fewer = omega arith; told = refl }))
-      (λ (g : 192 ≤ room). let o = one_line (stream_place at) in lay_one room g o (λ m. lays_in c _ _ (one_fewer _ o m h)))
+      (λ (g : 192 ≤ room). let o = one_line at in lay_one room g o (λ end m. lays_in c _ _ (one_fewer _ end o m h)))
       (lt-or_ge room 192)
 
   pub lays : (room at : ℕ) → Laid at (block_at network cap s room at)
-  lays room at = lays_in (lines_from at true) room at (omega arith)
+  lays room at = lays_in (lines_from (here at)) room at (omega arith)
 
   -- with room for a longest line there is one
-  pub lays-some : (room at : ℕ) → 192 ≤ room → lines_from (block_at network cap s room at).at (block_at network cap s room at).more < lines_from at true
-  lays-some room at g = some (one_line (stream_place at))
+  pub lays-some : (room at : ℕ) → 192 ≤ room → lines_from (block_at network cap s room at).at < lines_from (here at)
+  lays-some room at g = some (one_line at)
     where
-      rest : {end : ℕ} {line : List ℕ} (more : Bool) → OneLine at line end more → (r : ℕ) → lines_from (block_from r end more).at (block_from r end more).more < lines_from at true
-      rest {end} true o r = omega (arith, (lays r end).fewer, o.counted)
-      rest false o r = omega (arith, o.counted)
+      rest : {line : List ℕ} (next : Option StreamPlace) → OneLine at line next → (r : ℕ) → lines_from (block_from r next).at < lines_from (here at)
+      rest (Some end) o r = omega (arith, (lays r end.0).fewer, o.counted)
+      rest None o r = omega (arith, o.counted)
 
-      some : {end : ℕ} {line : List ℕ} {more : Bool} → OneLine at line end more
-          → lines_from (block_at network cap s room at).at (block_at network cap s room at).more < lines_from at true
-      some {line = line} {more = more} o = rw (o.laid room g) (rest more o (room - length line))
+      some : {line : List ℕ} {next : Option StreamPlace} → OneLine at line next → lines_from (block_at network cap s room at).at < lines_from (here at)
+      some {line = line} {next = next} o = rw (o.laid room g) (rest next o (room - length line))

@@ -1,13 +1,13 @@
 -- The theorems, from the laws of the report.
-use Rattle.std.specs.Prelude.{◌≡◌, ℕ, zero, suc, ◌≤◌, Bool, true, false, cond, List, [], ◌∷◌, ◌++◌, length, ◌≢◌, nat_lt, slice_index, refl}
+use Rattle.std.specs.Prelude.{◌≡◌, ℕ, zero, suc, ◌≤◌, Bool, true, false, cond, Option, Some, None, List, [], ◌∷◌, ◌++◌, length, ◌≢◌, nat_lt, slice_index, refl}
 use Rattle.std.proofs.Common.{arith, sym, ap, ◌∙◌}
 use mathlib.Core.List.{flat_map, append_assoc, append-nil}
 use Rattle.types.specs.declared.Network.{Network}
 use Rattle.types.specs.declared.Network.TheVariants.{Mainnet}
+use Rattle.types.specs.declared.StreamPlace.{StreamPlace}
 use Rattle.walk.specs.Walk as Walk
 use Rattle.walk.specs.Walk.{Item, Ending, clean, stopped, unended}
 use Rattle.walk.specs.Session.{Fields, handshake_fields, message_fields, Verdict, peer_verdict, peers_verdict, no_verdict, Content, session_reading}
-use Rattle.walk_read.specs.Steps.{stream_place}
 use Rattle.wire_text_write.specs.Text.{ascii}
 use Rattle.report_text.specs.Lines.{labelled_number, span, handshake_line, message_text, message_line, peers_line, stop_line, end_line}
 use Rattle.report_lines.specs.StepLines.{stop_text}
@@ -15,48 +15,44 @@ use Rattle.report_lines.specs.NextLines.{line_at, next_at}
 use Rattle.report.specs.Report.{content_line, item_line, ending_line, report_text, session_text, Block, block_at}
 use Rattle.report.specs.Theorems as Theorems
 use Rattle.report.specs.Theorems.{LinesFrom, BlocksFrom, LinesAreReport, BlocksAreReport, NeverUnread}
-use Rattle.report.proofs.ReportLaws.{lines_from, text_from, OneLine, one_line, text-all, lays}
+use Rattle.report.proofs.ReportLaws.{lines_from, text_from, here, OneLine, one_line, text-all, lays}
 
 module _ (network : Network) (cap : ℕ) (s : List ℕ) where
-  lines_text : {at : ℕ} {text : List ℕ} → LinesFrom network cap s at text → text ≡ text_from network cap s at true
-  lines_text {at} (Theorems.more {text = text} m rest) =
-      let o = one_line network cap s (stream_place at) in
-      ap (λ (t : List ℕ). line_at network cap s at ++ t) (lines_text rest)
-      ∙ ap (λ (b : Bool). line_at network cap s at ++ text_from network cap s (next_at network cap s at).at.0 b) (sym m)
-      ∙ sym o.told
+  lines_text : {at : ℕ} {text : List ℕ} → LinesFrom network cap s at text → text ≡ text_from network cap s (here network cap s at)
+  lines_text {at} (Theorems.more next m rest) =
+      let o = rw m at (one_line network cap s at) in
+      ap (λ (t : List ℕ). line_at network cap s at ++ t) (lines_text rest) ∙ sym o.told
   lines_text {at} (Theorems.last m) =
-      let o = one_line network cap s (stream_place at) in
-      sym (append-nil (line_at network cap s at))
-      ∙ ap (λ (b : Bool). line_at network cap s at ++ text_from network cap s (next_at network cap s at).at.0 b) (sym m)
-      ∙ sym o.told
+      let o = rw m at (one_line network cap s at) in
+      sym (append-nil (line_at network cap s at)) ∙ sym o.told
 
-  blocks_text : {at : ℕ} {text : List ℕ} → BlocksFrom network cap s at text → text ≡ text_from network cap s at true
-  blocks_text {at} (Theorems.more room m rest) =
+  blocks_text : {at : ℕ} {text : List ℕ} → BlocksFrom network cap s at text → text ≡ text_from network cap s (here network cap s at)
+  blocks_text {at} (Theorems.more room next m rest) =
       let b : Block = block_at network cap s room at in
       ap (λ (t : List ℕ). b.text ++ t) (blocks_text rest)
-      ∙ ap (λ (x : Bool). b.text ++ text_from network cap s b.at x) (sym m)
+      ∙ ap (λ (x : Option StreamPlace). b.text ++ text_from network cap s x) (sym m)
       ∙ sym (lays network cap s room at).told
   blocks_text {at} (Theorems.last room m) =
       let b : Block = block_at network cap s room at in
       sym (append-nil b.text)
-      ∙ ap (λ (x : Bool). b.text ++ text_from network cap s b.at x) (sym m)
+      ∙ ap (λ (x : Option StreamPlace). b.text ++ text_from network cap s x) (sym m)
       ∙ sym (lays network cap s room at).told
 
-  text_lines : (c at : ℕ) → lines_from network cap s at true ≤ c → LinesFrom network cap s at (text_from network cap s at true)
+  text_lines : (c at : ℕ) → lines_from network cap s (here network cap s at) ≤ c → LinesFrom network cap s at (text_from network cap s (here network cap s at))
   text_lines zero at h = absurd (omega arith)
-  text_lines (suc c) at h = go (text_lines c) (next_at network cap s at).more refl (one_line network cap s (stream_place at))
+  text_lines (suc c) at h = go (text_lines c) (next_at network cap s at).at refl (one_line network cap s at)
     where
-      go : ((end : ℕ) → lines_from network cap s end true ≤ c → LinesFrom network cap s end (text_from network cap s end true))
-          → (more : Bool) → (next_at network cap s at).more ≡ more → OneLine network cap s at (line_at network cap s at) (next_at network cap s at).at.0 more
-          → LinesFrom network cap s at (text_from network cap s at true)
-      go next true m o = rw o.told (Theorems.more m (next _ (omega (arith, o.counted))))
-      go next false m o = rw (o.told, append-nil) (Theorems.last m)
+      go : ((end : ℕ) → lines_from network cap s (here network cap s end) ≤ c → LinesFrom network cap s end (text_from network cap s (here network cap s end)))
+          → (next : Option StreamPlace) → (next_at network cap s at).at ≡ next → OneLine network cap s at (line_at network cap s at) next
+          → LinesFrom network cap s at (text_from network cap s (here network cap s at))
+      go rest (Some next) m o = rw o.told (Theorems.more next m (rest next.0 (omega (arith, o.counted))))
+      go rest None m o = rw (o.told, append-nil) (Theorems.last m)
 
 module _ (network : Network) (cap : ℕ) where
   pub lines_are_report : LinesAreReport network cap
   lines_are_report s text = (
     λ l. lines_text network cap s l ∙ text-all network cap s,
-    λ e. rw (e, ← text-all network cap s) (text_lines network cap s (lines_from network cap s 0 true) 0 (omega arith)),
+    λ e. rw (e, ← text-all network cap s) (text_lines network cap s (lines_from network cap s (here network cap s 0)) 0 (omega arith)),
   )
 
   pub blocks_are_report : BlocksAreReport network cap

@@ -1,14 +1,13 @@
 -- The report of a session (document 01, "At the edges"): the line of each item of its reading, then the line of how it ends; and what the program
 -- `session` prints. Then what `put_lines` gives of it.
-use Rattle.std.specs.Prelude.{ℕ, ◌-◌, Bool, true, false, cond, List, [], ◌∷◌, ◌++◌, length, take, nat_le, nat_lt}
+use Rattle.std.specs.Prelude.{ℕ, ◌-◌, cond, List, [], ◌∷◌, ◌++◌, length, take, nat_le, nat_lt, Option, Some, None, Result, Ok, Err}
 use mathlib.Core.List.{flat_map}
 use Rattle.types.specs.declared.Network.{Network}
 use Rattle.types.specs.declared.Network.TheVariants.{Mainnet}
+use Rattle.types.specs.declared.StreamPlace.{StreamPlace}
 use Rattle.walk.specs.Walk.{Item, Ending, clean, stopped, unended, Reading, walk}
 use Rattle.walk.specs.Session.{Fields, handshake_fields, message_fields, Verdict, peer_verdict, peers_verdict, no_verdict, Content, handshake_at, message_at, session_reading}
 use Rattle.walk_read.specs.Steps.{stream_place, layer_of, peer_number}
-use Rattle.report_input_read.specs.declared.Input.{Input}
-use Rattle.report_input_read.specs.declared.Input.TheVariants.{Bytes, Failed}
 use Rattle.wire_text_write.specs.Text.{ascii}
 use Rattle.report_text.specs.Lines.{handshake_line, message_line, peers_line, stop_line, end_line}
 use Rattle.report_lines.specs.StepLines.{stop_text}
@@ -48,27 +47,26 @@ abbrev pub unread : List ℕ
 unread = ascii "unread\n"
 
 -- what it prints where so many bytes were read into a buffer, or a read failed
-unfoldable pub input_text : Input → List ℕ → List ℕ
-input_text (Bytes n) buf = session_text (take n buf)
-input_text Failed buf = unread
+unfoldable pub input_text : {E : Type 0} → Result ℕ E → List ℕ → List ℕ
+input_text (Ok n) buf = session_text (take n buf)
+input_text (Err e) buf = unread
 
 -- ---- lines of it in an output
 
 -- the bytes of lines, and the place of the next step, if there is one
 pub record Block : Type 0 where
   pub text : List ℕ
-  pub at : ℕ
-  pub more : Bool
+  pub at : Option StreamPlace
 
 abbrev pub line_then : List ℕ → Block → Block
-line_then line b = record { text = line ++ b.text; at = b.at; more = b.more }
+line_then line b = record { text = line ++ b.text; at = b.at }
 
 -- lines of the items and the ending of a session of n bytes, from the place at on: each where room for a longest one, 192 bytes, is left
 unfoldable pub block_of : ℕ → ℕ → ℕ → List (Item Content) → Ending → Block
 block_of n room at [] e =
-    cond (nat_le 192 room) (record { text = ending_line n e; at = at; more = false }) (record { text = []; at = at; more = true })
+    cond (nat_le 192 room) (record { text = ending_line n e; at = None }) (record { text = []; at = Some (stream_place at) })
 block_of n room at (i ∷ is) e =
-    cond (nat_le 192 room) (line_then (item_line i) (block_of n (room - length (item_line i)) i.end is e)) (record { text = []; at = at; more = true })
+    cond (nat_le 192 room) (line_then (item_line i) (block_of n (room - length (item_line i)) i.end is e)) (record { text = []; at = Some (stream_place at) })
 
 module _ (network : Network) (cap : ℕ) (s : List ℕ) where
   -- the reading from a place on
@@ -80,4 +78,4 @@ module _ (network : Network) (cap : ℕ) (s : List ℕ) where
 
 -- what `put_lines` gives of it
 abbrev pub block_next : Block → Next
-block_next b = record { len = length b.text; at = stream_place b.at; more = b.more }
+block_next b = record { len = length b.text; at = b.at }

@@ -6,10 +6,10 @@ ghost use Rattle.wire.specs.Output.{put};
 ghost use Rattle.io.specs.Counts.{IsPrefixLen};
 ghost use Rattle.report.specs.Report.{block_at, block_next, report_text, session_text, input_text};
 
-use report_input_read::Input;
 use report_lines::Next;
-use std::io::Read;
+use std::io::{Read, Result};
 use types::{Network, StreamPlace};
+use wire_part_write::write_part;
 
 // The longest input of the program `session` that it reports on.
 const MAX_INPUT: usize = 65536;
@@ -17,7 +17,7 @@ const MAX_INPUT: usize = 65536;
 // The Peers cap of the program `session`.
 const CAP: usize = 64;
 
-// The descriptor of standard output.
+// The descriptor of standard output. The kit's io writes to it, since std's is a handle that print_read is not given.
 const STDOUT: i32 = 1;
 
 // All that the program `session` does: it reads its input, of which one byte more than the longest is enough to tell,
@@ -30,12 +30,12 @@ pub fn print_input<R: Read>(input: &mut R) {
 
 // Prints `unread` where a read failed, otherwise what is printed of the bytes that were read, and gives how many bytes that is. Of more bytes than the
 // buffer has it counts the buffer's.
-pub fn print_read(read: Input, buf: &[u8]) -> u64
+pub fn print_read(read: Result<usize>, buf: &[u8]) -> u64
     ensures { result ≡ length (input_text read buf.now) % 2 ^ 64 }
 {
     match read {
-        Input::Bytes(n) => print_session(&buf[..report_input_read::least(n, buf.len())]),
-        Input::Failed => {
+        Ok(n) => print_session(&buf[..n.min(buf.len())]),
+        Err(_) => {
             io::write_all(STDOUT, b"unread\n");
             7
         }
@@ -57,16 +57,14 @@ pub fn print_session(s: &[u8]) -> u64
 fn print_report(s: &[u8], network: Network, cap: usize) -> u64
     ensures { result ≡ length (report_text network cap s.now) % 2 ^ 64 }
 {
-    let mut at = 0;
-    let mut more = true;
-    let mut printed = 0;
-    while more {
+    let mut at = Some(StreamPlace(0));
+    let mut printed = 0u64;
+    while let Some(place) = at {
         let mut block = [0u8; 65536];
-        let next = put_lines(&mut block, s, network, cap, StreamPlace(at));
-        io::write_all(STDOUT, &block[..next.len]);
-        at = next.at.0;
-        more = next.more;
-        printed = std::num::wrapping_add_u64(printed, next.len as u64);
+        let lines = put_lines(&mut block, s, network, cap, place);
+        io::write_all(STDOUT, &block[..lines.len]);
+        at = lines.at;
+        printed = printed.wrapping_add(lines.len as u64);
     }
     printed
 }
@@ -78,19 +76,15 @@ pub fn put_lines(out: &mut [u8], s: &[u8], network: Network, cap: usize, at: Str
     ensures prefix_len { IsPrefixLen result.len out.new }
 {
     let mut len = 0;
-    let mut place = at.0;
-    let mut more = true;
-    while more && 192 <= out.len() - len {
+    let mut at = Some(at);
+    while let Some(place) = at {
+        if out.len() - len < 192 {
+            break;
+        }
         let mut line = [0u8; 192];
-        let next = report_lines::next_line(&mut line, s, network, cap, StreamPlace(place));
-        wire_part_write::write_part(out, len, &line[..next.len]);
-        len += next.len;
-        place = next.at.0;
-        more = next.more;
+        let next = report_lines::next_line(&mut line, s, network, cap, place);
+        len = write_part(out, len, &line[..next.len]).unwrap();
+        at = next.at;
     }
-    Next {
-        len,
-        at: StreamPlace(place),
-        more,
-    }
+    Next { len, at }
 }

@@ -14,8 +14,7 @@ use walk_read::{HandshakeItem, Layer, MessageItem, StepRead, Stop};
 #[derive(Clone, Copy)]
 pub struct Next {
     pub len: usize,
-    pub at: StreamPlace,
-    pub more: bool,
+    pub at: Option<StreamPlace>,
 }
 
 // The line of the step at a place of a session. A place past the session's length has no line.
@@ -32,32 +31,16 @@ pub fn next_line(
 {
     let step = walk_read::step(s, network, cap, at);
     let len = step_line(line, step, s.len());
-    match step {
-        StepRead::Handshake(i) => {
-            let end = i.end;
-            Next {
-                len,
-                at: end,
-                more: true,
-            }
-        }
-        StepRead::Message(i) => {
-            let end = i.end;
-            Next {
-                len,
-                at: end,
-                more: true,
-            }
-        }
-        _ => Next {
-            len,
-            at,
-            more: false,
-        },
-    }
+    let at = match step {
+        StepRead::Handshake(i) => Some(i.end),
+        StepRead::Message(i) => Some(i.end),
+        _ => None,
+    };
+    Next { len, at }
 }
 
 // The line of a step of a session of n bytes: how long it is.
+#[tactic(auto, using(wire::proofs::OutputLaws::wrote_none), unfolding(crate::specs::StepLines::line_of))]
 pub fn step_line(line: &mut [u8; 192], step: StepRead, n: usize) -> usize
     ensures wrote { Wrote line.old 0 (line_of step n) result line.new }
     ensures upper_bound { result ≤ 192 }
@@ -71,30 +54,28 @@ pub fn step_line(line: &mut [u8; 192], step: StepRead, n: usize) -> usize
     }
 }
 
+#[tactic(auto, unfolding(crate::specs::StepLines::handshake_item_line))]
 fn handshake_line(line: &mut [u8; 192], i: HandshakeItem) -> usize
     ensures wrote { Wrote line.old 0 (handshake_item_line i) result line.new }
     ensures upper_bound { result ≤ 192 }
 {
-    let v = i.handshake.peer.version;
     report_text::put_handshake(
         line,
         i.start.0 as u64,
         i.end.0 as u64,
-        v.major,
-        v.minor,
-        v.patch,
+        i.handshake.peer.version,
         i.verdict,
     )
 }
 
+#[tactic(auto, unfolding(crate::specs::StepLines::message_of_line))]
 fn message_line(line: &mut [u8; 192], i: MessageItem) -> usize
     ensures wrote { Wrote line.old 0 (message_item_line i) result line.new }
     ensures upper_bound { result ≤ 192 }
 {
     let start = i.start.0 as u64;
     let end = i.end.0 as u64;
-    let message = i.message;
-    match message {
+    match i.message {
         Message::Peers(p) => report_text::put_peers(
             line,
             start,
@@ -107,13 +88,13 @@ fn message_line(line: &mut [u8; 192], i: MessageItem) -> usize
     }
 }
 
+#[tactic(auto, unfolding(crate::specs::StepLines::stop_text))]
 fn stop_line(line: &mut [u8; 192], t: Stop) -> usize
     ensures wrote { Wrote line.old 0 (stop_item_line t) result line.new }
     ensures upper_bound { result ≤ 192 }
 {
     let start = t.start.0 as u64;
-    let layer = t.layer;
-    match layer {
+    match t.layer {
         Layer::Handshake => report_text::put_handshake_stop(line, t.number, start),
         Layer::Frame => report_text::put_frame_stop(line, t.number, start),
         Layer::Body => report_text::put_body_stop(line, t.number, start),

@@ -1,4 +1,5 @@
 // The text of each line of a session's report (document 01, "At the edges") from its numbers, stored from the first byte of a lent line on.
+// A line is an array with how much of it is filled, since the library allocates nothing.
 #![tactic(auto)]
 
 ghost use Rattle.std.specs.Prelude.{◌≡◌, ◌+◌, ◌≤◌, length};
@@ -6,22 +7,24 @@ ghost use Rattle.wire.specs.Output.{Wrote};
 ghost use Rattle.report_text.specs.Lines.{line_end, version_text, handshake_line, message_text, message_line, peers_line, stop_handshake, stop_frame, stop_body, stop_line, end_line};
 ghost use Rattle.report_text.specs.Lines.{labelled_number as Lines·field, span as Lines·span};
 
+use types::Version;
+use wire_part_write::write_part;
+use wire_text_write::write_decimal;
+
 // "handshake START END version MAJOR.MINOR.PATCH verdict VERDICT"
 pub fn put_handshake(
     line: &mut [u8; 192],
     start: u64,
     end: u64,
-    major: u8,
-    minor: u8,
-    patch: u8,
+    version: Version,
     verdict: u8,
 ) -> usize
-    ensures wrote { Wrote line.old 0 (handshake_line start end major minor patch verdict) result line.new }
+    ensures wrote { Wrote line.old 0 (handshake_line start end version.major version.minor version.patch verdict) result line.new }
     ensures upper_bound { result ≤ 192 }
 {
     let a = span(line, b"handshake ", start, end);
-    let b = version(line, a, major, minor, patch);
-    let c = field(line, b, b" verdict ", verdict as u64);
+    let b = put_version(line, a, version);
+    let c = field(line, b, b" verdict ", u64::from(verdict));
     newline(line, c)
 }
 
@@ -85,13 +88,13 @@ pub fn put_end(line: &mut [u8; 192], length: u64) -> usize
     newline(line, a)
 }
 
-// The text of a stop with its layer, its number and the item's start.
+// The text of a stop with its layer, its number and the item's start. Private, since a text of any length has no room.
 fn put_stop(line: &mut [u8; 192], text: &[u8], number: u8, start: u64) -> usize
     requires { length text.now ≤ 15 }
     ensures wrote { Wrote line.old 0 (stop_line text.now number start) result line.new }
     ensures upper_bound { result ≤ 192 }
 {
-    let a = span(line, text, number as u64, start);
+    let a = span(line, text, u64::from(number), start);
     newline(line, a)
 }
 
@@ -101,7 +104,7 @@ fn put_message_text(line: &mut [u8; 192], start: u64, end: u64, code: u8) -> usi
     ensures upper_bound { result ≤ 75 }
 {
     let a = span(line, b"message ", start, end);
-    field(line, a, b" code ", code as u64)
+    field(line, a, b" code ", u64::from(code))
 }
 
 // A text and two numbers.
@@ -115,14 +118,14 @@ fn span(line: &mut [u8], text: &[u8], start: u64, end: u64) -> usize
 }
 
 // " version MAJOR.MINOR.PATCH"
-fn version(line: &mut [u8], at: usize, major: u8, minor: u8, patch: u8) -> usize
+fn put_version(line: &mut [u8], at: usize, version: Version) -> usize
     requires { at + 71 ≤ length line.old }
-    ensures wrote { Wrote line.old at (version_text major minor patch) result line.new }
+    ensures wrote { Wrote line.old at (version_text version.major version.minor version.patch) result line.new }
     ensures upper_bound { result ≤ at + 71 }
 {
-    let a = field(line, at, b" version ", major as u64);
-    let b = field(line, a, b".", minor as u64);
-    field(line, b, b".", patch as u64)
+    let a = field(line, at, b" version ", u64::from(version.major));
+    let b = field(line, a, b".", u64::from(version.minor));
+    field(line, b, b".", u64::from(version.patch))
 }
 
 // A text and a number in decimal: the place after them.
@@ -131,12 +134,11 @@ fn field(line: &mut [u8], at: usize, text: &[u8], n: u64) -> usize
     ensures wrote { Wrote line.old at (Lines·field text.now n) result line.new }
     ensures upper_bound { result ≤ at + length text.now + 20 }
 {
-    let next = at + text.len();
-    wire_part_write::write_part(line, at, text);
-    wire_text_write::write_decimal(line, next, n);
-    next + wire_text_write::decimal_len(n)
+    let next = write_part(line, at, text).unwrap();
+    write_decimal(line, next, n).unwrap()
 }
 
+#[tactic(auto, using(wire::proofs::OutputLaws::wrote_byte))]
 fn newline(line: &mut [u8], at: usize) -> usize
     requires { at + 1 ≤ length line.old }
     ensures wrote { Wrote line.old at line_end result line.new }

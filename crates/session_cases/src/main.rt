@@ -2,9 +2,8 @@
 // after the other; and last, twice, what it prints where its input can't be read.
 #![tactic(auto)]
 
-ghost use Rattle.std.specs.Prelude.{◌≤◌, ◌<◌, length};
+ghost use Rattle.std.specs.Prelude.{◌≤◌, ◌<◌, length, IfSome};
 
-use report_input_read::Input;
 use std::io::{Error, Read, Result};
 
 // The descriptor of standard input.
@@ -24,38 +23,28 @@ fn main() {
     let mut sessions = [0u8; 262144];
     let n = io::read_full(STDIN, &mut sessions);
     print_reports(&sessions[..n]);
-    report::print_read(Input::Failed, &sessions);
+    report::print_read(Err(Error::other("unreadable")), &sessions);
     report::print_input(&mut Unreadable);
 }
 
 // The reports of all sessions; at one that is not there whole it ends.
-fn print_reports(s: &[u8]) {
-    let mut at = 0;
-    while at < s.len() {
-        let end = session_end(s, at);
-        if end <= at + 2 {
-            return;
-        }
-        report::print_read(Input::Bytes(end - at - 3), &s[at + 3..]);
-        at = end;
+fn print_reports(sessions: &[u8]) {
+    let mut s = sessions;
+    while let Some((n, rest)) = first_session(s) {
+        report::print_read(Ok(n), rest);
+        s = &rest[n..];
     }
 }
 
-// The place after the session at a place; 0 where it is not there whole.
-fn session_end(s: &[u8], at: usize) -> usize
-    requires { at ≤ length s.now }
-    ensures { result ≤ length s.now }
+// How long the session is that s begins with, and what follows its length; none where it is not there whole.
+fn first_session(s: &[u8]) -> Option<(usize, &[u8])>
+    ensures { IfSome result (λ r. (r.0 ≤ length r.1.now) × (length r.1.now < length s.now)) }
 {
-    let left = s.len() - at;
-    if left < 3 {
-        return 0;
+    let (&[a, b, c], rest) = s.split_first_chunk::<3>()?;
+    let n = u32::from_le_bytes([a, b, c, 0]) as usize;
+    if n <= rest.len() {
+        Some((n, rest))
+    } else {
+        None
     }
-    let n = wide(s[at]) + wide(s[at + 1]) * 256 + wide(s[at + 2]) * 65536;
-    if n <= left - 3 { at + 3 + n } else { 0 }
-}
-
-fn wide(x: u8) -> usize
-    ensures { result < 256 }
-{
-    x as usize
 }

@@ -1,9 +1,10 @@
 -- Cases of the order of versions, beside the least one that a handshake may have, and of the conversion of places, one
 -- lemma for each table.
-use Rattle.std.specs.Prelude.{ℕ, ◌-◌, ◌^◌, ◌≡◌, refl, List, [], ◌∷◌, map, Bool, true, false}
+use Rattle.std.specs.Prelude.{Result, Ok, Err, ℕ, ◌-◌, ◌^◌, ◌≡◌, refl, List, [], ◌∷◌, map, Bool, true, false}
 use Rattle.types.specs.declared.Version.{Version}
-use Rattle.types.specs.declared.Located.{Located}
-use Rattle.types.specs.declared.Located.TheVariants.{At, Refused}
+use Rattle.types.specs.declared.StreamPlace.{StreamPlace}
+use Rattle.wire.specs.declared.Refusal.{Refusal}
+use Rattle.wire.specs.declared.Refusal.TheVariants.{Outside}
 use Rattle.types.specs.Order.{then_by, below, eip37_min}
 use Rattle.types.specs.Places.{located}
 
@@ -29,15 +30,15 @@ pub record PlaceCase : Type 0 where
   pub start : ℕ
   pub length : ℕ
   pub place : ℕ
-  pub answer : Located
+  pub answer : Result StreamPlace Refusal
 
 unfoldable pub places : List PlaceCase
 places =
-    record { start = 7; length = 3; place = 0; answer = At (record { 0 = 7 }) }
-    ∷ record { start = 7; length = 3; place = 3; answer = At (record { 0 = 10 }) }
-    ∷ record { start = 7; length = 3; place = 4; answer = Refused 12 }
-    ∷ record { start = 2 ^ 64 - 1; length = 0; place = 0; answer = At (record { 0 = 2 ^ 64 - 1 }) }
-    ∷ record { start = 2 ^ 64 - 1; length = 1; place = 0; answer = Refused 12 }
+    record { start = 7; length = 3; place = 0; answer = Ok (record { 0 = 7 }) }
+    ∷ record { start = 7; length = 3; place = 3; answer = Ok (record { 0 = 10 }) }
+    ∷ record { start = 7; length = 3; place = 4; answer = Err Outside }
+    ∷ record { start = 2 ^ 64 - 1; length = 0; place = 0; answer = Ok (record { 0 = 2 ^ 64 - 1 }) }
+    ∷ record { start = 2 ^ 64 - 1; length = 1; place = 0; answer = Err Outside }
     ∷ []
 
 pub place-cases : map (λ (c : PlaceCase). located (record { 0 = c.start }) c.length (record { 0 = c.place })) places

@@ -1,3 +1,4 @@
 pub mod Magic
 pub mod Order
 pub mod Places
+pub mod Answers

@@ -7,7 +7,9 @@ ghost use Rattle.types.specs.Magic.{magic_of};
 ghost use Rattle.types.specs.Order.{below, eip37_min};
 ghost use Rattle.types.specs.Places.{located};
 
-#[derive(Clone, Copy)]
+use wire::Refusal;
+
+#[derive(Clone, Copy, PartialEq, Eq)]
 pub enum Network {
     Mainnet,
     Testnet,
@@ -24,8 +26,8 @@ impl Network {
     }
 }
 
-// Protocol version as three bytes: major.minor.patch.
-#[derive(Clone, Copy)]
+// Protocol version as three bytes: major.minor.patch. The derived order compares them in this order.
+#[derive(Clone, Copy, PartialEq, Eq, PartialOrd, Ord)]
 pub struct Version {
     pub major: u8,
     pub minor: u8,
@@ -43,29 +45,31 @@ impl Version {
         }
     }
 
-    // The Rust's constant EIP37_MIN.
+    // The least version that a handshake may have.
+    pub const EIP37_MIN: Version = Version {
+        major: 4,
+        minor: 0,
+        patch: 100,
+    };
+
     pub fn eip37_min() -> Self
         ensures { result ≡ eip37_min }
     {
-        Version::new(4, 0, 100)
+        Version::EIP37_MIN
     }
 
-    // Whether this version is below other, by major, then minor, then patch.
+    // Whether this version is below other.
+    #[tactic(auto, unfolding(crate::specs::Order::then_by, crate::specs::Order::below))]
     pub fn lt(self, other: Version) -> bool
         ensures { result ≡ below self other }
     {
-        if self.major != other.major {
-            return self.major < other.major;
-        }
-        if self.minor != other.minor {
-            return self.minor < other.minor;
-        }
-        self.patch < other.patch
+        self < other
     }
 }
 
-// An address and its port. The address's bytes are one big-endian number, of IPv6 two: the high half, then the low half.
-#[derive(Clone, Copy)]
+// An address and its port, or none, which is a case of its own, as `address_of` of handshake/Entry has it. The address's
+// bytes are one big-endian number, of IPv6 two: the high half, then the low half.
+#[derive(Clone, Copy, PartialEq, Eq)]
 pub enum Address {
     None,
     V4(u32, u16),
@@ -73,41 +77,38 @@ pub enum Address {
 }
 
 // What a handshake advertises: a full archival node, or one bootstrapped by NiPoPoW.
-#[derive(Clone, Copy)]
+#[derive(Clone, Copy, PartialEq, Eq)]
 pub enum ProxyMode {
     Full,
     Light,
 }
 
 // A place in the stream.
-#[derive(Clone, Copy)]
+#[derive(Clone, Copy, PartialEq, Eq)]
 pub struct StreamPlace(pub usize);
 
 // A place in a message body.
-#[derive(Clone, Copy)]
+#[derive(Clone, Copy, PartialEq, Eq)]
 pub struct BodyPlace(pub usize);
 
-// Where in the stream a place of a body is, or the refusal's number.
-#[derive(Clone, Copy)]
-pub enum Located {
-    At(StreamPlace),
-    Refused(u8),
-}
+// What is read of a body and the place where it ends there, or the refusal.
+pub type BodyRead<T> = Result<(T, BodyPlace), Refusal>;
+
+// What is read of the stream and the place where it ends there, or the refusal.
+pub type StreamRead<T> = Result<(T, StreamPlace), Refusal>;
 
 impl BodyPlace {
     // This place of a body of length bytes that begins at start, as a place in the stream.
-    pub fn in_stream(self, start: StreamPlace, length: usize) -> Located
+    #[tactic(auto, unfolding(crate::specs::Places::located))]
+    pub fn in_stream(self, start: StreamPlace, length: usize) -> Result<StreamPlace, Refusal>
         ensures { result ≡ located start length self }
     {
         let place = self.0;
         let from = start.0;
         let room = usize::MAX - from;
-        if length < place {
-            return Located::Refused(12);
+        if length < place || room < length {
+            return Err(Refusal::Outside);
         }
-        if room < length {
-            return Located::Refused(12);
-        }
-        Located::At(StreamPlace(from + place))
+        Ok(StreamPlace(from + place))
     }
 }

@@ -1,11 +1,12 @@
 -- Laws of short strings: the cut law, where the bytes stand, that what is written is read back, and the string's answers from tests.
-use Rattle.std.specs.Prelude.{ℕ, ◌+◌, ◌-◌, ◌≤◌, ◌<◌, Bool, cond, List, [], ◌∷◌, ◌≡◌, T, length, take, drop}
+use Rattle.std.specs.Prelude.{ℕ, ◌+◌, ◌-◌, ◌≤◌, Bool, List, [], ◌∷◌, ◌≡◌, T, length, take, drop}
 use native.Mathlib.Omega.{arith}
 use Rattle.std.proofs.Math.Bool.{true, false}
-use Rattle.std.proofs.Common.{ap, ◌∙◌}
+use Rattle.std.proofs.Common.{ap, sym, ◌∙◌}
 use Rattle.wire.proofs.GivesLaws.{Gives, gives_then, gives-guard, gives-byte, gives_part}
-use Rattle.wire.specs.Reader.{got, refused, part_of, map_answer}
-use Rattle.wire.proofs.ReaderLaws.{part-got, part_missing, part-outside, length_part}
+use Rattle.wire.specs.Reader.{got, refused, part, part_of, map_answer}
+use Rattle.wire.specs.declared.Part.{Part}
+use Rattle.wire.proofs.ReaderLaws.{part_at, map-got, map-refused}
 use Rattle.wire.specs.Stable.{Stable}
 use Rattle.wire.proofs.StableLaws.{stable_then, stable_guard, stable_byte, stable_part}
 use Rattle.wire.specs.ReadsBack.{ReadsBack, Placed}
@@ -13,21 +14,42 @@ use Rattle.wire.proofs.ReadsBackLaws.{bytes_of, reads_then, reads-last, reads-gu
 use Rattle.vlq_utf8.specs.Utf8.{utf8}
 use Rattle.vlq.specs.ShortString.{string, short_string, short_string_bytes}
 
-module _ (n : ℕ) (s : List ℕ) (at : ℕ) where
-  -- the code's part ends at at + n, so its length is written at + n - at
-  pub string-got : (b : Bool) → at + n ≤ length s → utf8 (take (at + n - at) (drop at s)) ≡ b
-      → map_answer part_of (string n s at) ≡ cond b (got (record { start = at; len = n }) (at + n)) (refused 4)
-  unfolding string map_answer
-  string-got true h e = let z : at + n - at ≡ n = omega arith in rw (part-got n s at h, rw z at e, length_part n s at h)
-  string-got false h e = let z : at + n - at ≡ n = omega arith in rw (part-got n s at h, rw z at e)
+-- a part as the code reads it
+pub record CodePart (n : ℕ) (s : List ℕ) (at : ℕ) (p : Part) (next : ℕ) : Type 0 where
+  pub start : p.start ≡ at
+  pub inside : at + n ≤ length s
+  pub end : next ≡ at + n
 
-  pub string_missing : at ≤ length s → length s < at + n → map_answer part_of (string n s at) ≡ refused 1
-  unfolding string map_answer
-  string_missing h g = rw (part_missing n s at h g)
+module _ (n : ℕ) (s : List ℕ) (at : ℕ) {p : Part} {next : ℕ} (e : got p next ≡ map_answer part_of (part n s at)) where
+  pub code_part : CodePart n s at p next
+  code_part =
+      let m = map-got part_of (sym e) in
+      let r = part_at n s at m.1 in
+      record { start = sym (ap (λ (p : Part). p.start) m.2) ∙ r.start; inside = r.inside; end = r.end }
 
-  pub string-outside : length s < at → map_answer part_of (string n s at) ≡ refused 12
+  same_string : utf8 (take (next - p.start) (drop p.start s)) ≡ utf8 (take n (drop at s))
+  same_string =
+      let z : next - p.start ≡ n = omega (arith, code_part.start, code_part.end) in
+      rw (z, code_part.start)
+
+  -- the string's answers, once its part is read
+  pub string-got : utf8 (take (next - p.start) (drop p.start s)) ≡ true → got p next ≡ map_answer part_of (string n s at)
   unfolding string map_answer
-  string-outside h = rw (part-outside n s at h)
+  string-got u =
+      let m = map-got part_of (sym e) in
+      let w : utf8 m.0.bytes ≡ true = ap utf8 (part_at n s at m.1).bytes ∙ sym same_string ∙ u in
+      rw (m.1, w) (ap (λ (p : Part). got p next) (sym m.2))
+
+  pub string-bad : utf8 (take (next - p.start) (drop p.start s)) ≡ false → refused 4 ≡ map_answer part_of (string n s at)
+  unfolding string map_answer
+  string-bad u =
+      let m = map-got part_of (sym e) in
+      let w : utf8 m.0.bytes ≡ false = ap utf8 (part_at n s at m.1).bytes ∙ sym same_string ∙ u in
+      rw (m.1, w)
+
+pub string-refused : (n : ℕ) (s : List ℕ) (at : ℕ) {k : ℕ} → refused k ≡ map_answer part_of (part n s at) → refused k ≡ map_answer part_of (string n s at)
+unfolding string map_answer
+string-refused n s at e = rw (map-refused part_of (sym e))
 
 module _ {is_cut : ℕ → Bool} (one : T (is_cut 1)) where
   pub stable_string : (n : ℕ) → Stable is_cut (string n)

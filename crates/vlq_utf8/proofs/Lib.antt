@@ -1,4 +1,3 @@
-mod Leads
 mod Walk
 pub mod AsciiLaws
 pub mod Cases

@@ -1,6 +1,6 @@
 -- The steps of the theorem in ScalarLaws.
 -- The idea: `by_lead` says of each row which character numbers its first followers begin, and both directions go through it.
-use Rattle.std.specs.Prelude.{ℕ, zero, suc, ◌+◌, ◌-◌, ◌*◌, ◌/◌, ◌%◌, ◌≤◌, ◌<◌, true, cond, ◌&&◌, ◌≢◌, ◌≡◌, refl, leb, drop}
+use Rattle.std.specs.Prelude.{Option, Some, None, ℕ, zero, suc, ◌+◌, ◌-◌, ◌*◌, ◌/◌, ◌%◌, ◌≤◌, ◌<◌, true, cond, ◌&&◌, ◌≢◌, ◌≡◌, refl, leb, drop}
 use Rattle.std.proofs.lemmas.Bool.{false≢true}
 use mathlib.Core.List.{List, [], ◌∷◌, ◌++◌}
 use Rattle.std.proofs.Common.{ap, sym, ◌∙◌}
@@ -9,7 +9,6 @@ use native.Mathlib.Omega.{arith}
 use borrow.Author.Tests.{le-leb, lt-leb, leb-true, eqb-true}
 use Rattle.wire.proofs.BytesLaws.{and-true}
 use Rattle.vlq_utf8.specs.declared.Lead.{Lead}
-use Rattle.vlq_utf8.specs.declared.Lead.TheVariants.{Followers, Bad}
 use Rattle.vlq_utf8.specs.Utf8.{Row, row, lead_rows, lead_in, lead_of, after_lead, utf8_from, utf8}
 use Rattle.vlq_utf8.specs.Scalars.{Scalar, Scalars, encode, encode_all, EncodingOf}
 
@@ -23,16 +22,16 @@ at_most a n x y P f g = side (dec_le a n)
     side (no h) = let k : n < a = omega arith in rw (lt-leb a n k) (g k)
 
 -- a lead byte at or after the first of a row
-next_row : (b first last n low high : ℕ) (rs : List Row) (P : Lead → Type 0) → first ≤ b
-    → (b ≤ last → P (Followers n low high)) → (last < b → P (lead_in rs b)) → P (lead_in (row first last n low high ∷ rs) b)
+next_row : (b first last n low high : ℕ) (rs : List Row) (P : Option Lead → Type 0) → first ≤ b
+    → (b ≤ last → P (Some (record { followers = n; low = low; high = high }))) → (last < b → P (lead_in rs b)) → P (lead_in (row first last n low high ∷ rs) b)
 unfolding lead_in
-next_row b first last n low high rs P h f g = rw (le-leb first b h) (at_most b last (Followers n low high) (lead_in rs b) P f g)
+next_row b first last n low high rs P h f g = rw (le-leb first b h) (at_most b last (Some (record { followers = n; low = low; high = high })) (lead_in rs b) P f g)
 
 abbrev Below : ℕ → List Row → Type 0
 Below b [] = Unit {0}
 Below b (row first last n low high ∷ rs) = (b < first) × Below b rs
 
-below_rows : (rs : List Row) (b : ℕ) → Below b rs → lead_in rs b ≡ Bad
+below_rows : (rs : List Row) (b : ℕ) → Below b rs → lead_in rs b ≡ None
 unfolding lead_in
 below_rows [] b h = refl
 below_rows (row first last n low high ∷ rs) b h = rw (lt-leb first b h.0) (below_rows rs b h.1)
@@ -60,13 +59,13 @@ record Bounds (M : ℕ → Type 0) (lo hi : ℕ) : Type 0 where
   to : (x : ℕ) → lo ≤ x → x ≤ hi → M x
   from : (x : ℕ) → M x → (lo ≤ x) × (x ≤ hi)
 
-module _ (b : ℕ) (P : Lead → Type 0)
-    (one : b ≤ 0x7f → P (Followers 0 0x80 0xbf))
-    (two : 0xc2 ≤ b → b ≤ 0xdf → P (Followers 1 0x80 0xbf))
-    (three : (lo hi : ℕ) → 0xe0 ≤ b → b ≤ 0xef → Bounds (First3 b) lo hi → P (Followers 2 lo hi))
-    (four : (lo hi : ℕ) → 0xf0 ≤ b → b ≤ 0xf4 → Bounds (First4 b) lo hi → P (Followers 3 lo hi))
-    (between : 0x7f < b → b < 0xc2 → P Bad)
-    (after : 0xf4 < b → P Bad) where
+module _ (b : ℕ) (P : Option Lead → Type 0)
+    (one : b ≤ 0x7f → P (Some (record { followers = 0; low = 0x80; high = 0xbf })))
+    (two : 0xc2 ≤ b → b ≤ 0xdf → P (Some (record { followers = 1; low = 0x80; high = 0xbf })))
+    (three : (lo hi : ℕ) → 0xe0 ≤ b → b ≤ 0xef → Bounds (First3 b) lo hi → P (Some (record { followers = 2; low = lo; high = hi })))
+    (four : (lo hi : ℕ) → 0xf0 ≤ b → b ≤ 0xf4 → Bounds (First4 b) lo hi → P (Some (record { followers = 3; low = lo; high = hi })))
+    (between : 0x7f < b → b < 0xc2 → P None)
+    (after : 0xf4 < b → P None) where
   from_c2 : 0xc2 ≤ b → P (lead_in (drop 1 lead_rows) b)
   unfolding lead_rows
   from_c2 h₁ =

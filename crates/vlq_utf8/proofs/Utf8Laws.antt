@@ -1,10 +1,9 @@
 -- Laws of utf8: the empty list is UTF-8, and of bytes that begin with UTF-8 the rest decides.
-use Rattle.std.specs.Prelude.{ℕ, zero, suc, Bool, true, ◌&&◌, List, [], ◌∷◌, ◌++◌, ◌≡◌, refl, leb}
+use Rattle.std.specs.Prelude.{Option, Some, None, ℕ, zero, suc, Bool, true, ◌&&◌, List, [], ◌∷◌, ◌++◌, ◌≡◌, refl, leb}
 use Rattle.std.proofs.lemmas.Bool.{false≢true}
 use Rattle.std.proofs.Common.{ap, ◌∙◌, eqb-true}
 use Rattle.wire.proofs.BytesLaws.{and-true}
 use Rattle.vlq_utf8.specs.declared.Lead.{Lead}
-use Rattle.vlq_utf8.specs.declared.Lead.TheVariants.{Followers, Bad}
 use Rattle.vlq_utf8.specs.Utf8.{lead_of, after_lead, utf8_from, utf8}
 
 pub utf8_nil : utf8 [] ≡ true
@@ -17,10 +16,10 @@ unfolding utf8_from
 none_due [] low high low' high' = refl
 none_due (b ∷ bs) low high low' high' = refl
 
-after-append : (v : Lead) (f g : ℕ → ℕ → ℕ → Bool) (r : Bool) → ((n low high : ℕ) → f n low high ≡ true → g n low high ≡ r)
+after-append : (v : Option Lead) (f g : ℕ → ℕ → ℕ → Bool) (r : Bool) → ((n low high : ℕ) → f n low high ≡ true → g n low high ≡ r)
     → after_lead v f ≡ true → after_lead v g ≡ r
-after-append (Followers n low high) f g r ih e = ih n low high e
-after-append Bad f g r ih e = absurd (false≢true e)
+after-append (Some lead) f g r ih e = ih lead.followers lead.low lead.high e
+after-append None f g r ih e = absurd (false≢true e)
 
 from-append : (xs ys : List ℕ) (n low high : ℕ) → utf8_from xs n low high ≡ true → utf8_from (xs ++ ys) n low high ≡ utf8 ys
 unfolding utf8 utf8_from

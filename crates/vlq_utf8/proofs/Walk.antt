@@ -10,10 +10,11 @@ use borrow.Author.Tests.{le-leb, lt-leb}
 use lib.Dec.{eqb}
 use lib.ListN.{length, get_or, drop, drop_of_length-le}
 use lib.Seq.{drop-cons}
-use Rattle.vlq_utf8.specs.declared.Lead.TheVariants.{Followers, Bad}
+use Rattle.std.proofs.Common.{Some, None}
+use Rattle.vlq_utf8.specs.declared.Lead.{Lead}
 use Rattle.vlq_utf8.specs.Utf8.{lead_of, utf8_from, utf8}
 use Rattle.vlq_utf8.proofs.Utf8Laws.{none_due}
-use Rattle.vlq_utf8.proofs.Leads.{lead_ascii}
+use Rattle.vlq_utf8.proofs.AsciiLaws.{lead_ascii}
 
 pub record Stands (s : List ℕ) (at left low high : ℕ) : Type 0 where
   pub inside : at ≤ length s
@@ -27,19 +28,19 @@ module _ {s : List ℕ} {at left low high : ℕ} (stands : Stands s at left low 
   byte_next : utf8 s ≡ utf8_from (get_or s at 0 ∷ drop (at + 1) s) left low high
   byte_next = stands.same ∙ rw (drop-cons s at 0 more, add-one)
 
-  pub at_lead : (n a z : ℕ) → left ≡ 0 → Followers n a z ≡ lead_of (get_or s at 0) → Stands s (at + 1) n a z
+  pub at_lead : (lead : Lead) → left ≡ 0 → lead_of (get_or s at 0) ≡ Some lead → Stands s (at + 1) lead.followers lead.low lead.high
   unfolding utf8_from
-  at_lead n a z h e = record { inside = omega arith; same = byte_next ∙ rw (h, ← e) }
+  at_lead lead h e = record { inside = omega arith; same = byte_next ∙ rw (h, e) }
 
   pub at_ascii : left ≡ 0 → get_or s at 0 ≤ 0x7f → Stands s (at + 1) left low high
   unfolding utf8_from
   at_ascii h l =
       let e = lead_ascii (get_or s at 0) (omega arith) in
-      record { inside = omega arith; same = byte_next ∙ rw (h, ← e) (none_due (drop (at + 1) s) 0x80 0xbf low high) }
+      record { inside = omega arith; same = byte_next ∙ rw (h, e) (none_due (drop (at + 1) s) 0x80 0xbf low high) }
 
-  pub at-bad : left ≡ 0 → Bad ≡ lead_of (get_or s at 0) → false ≡ utf8 s
+  pub at-bad : left ≡ 0 → lead_of (get_or s at 0) ≡ None → false ≡ utf8 s
   unfolding utf8_from
-  at-bad h e = sym (byte_next ∙ rw (h, ← e))
+  at-bad h e = sym (byte_next ∙ rw (h, e))
 
   module _ (due : ¬ (left ≡ 0)) where
     one_less : left ≡ suc (left - 1)

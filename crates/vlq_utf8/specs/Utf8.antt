@@ -1,8 +1,7 @@
 -- UTF-8 by RFC 3629, section 4: the grammar as a table of lead bytes, and the walk over a list of bytes by it.
 -- It is document 01's table, in the grammar's order.
-use Rattle.std.specs.Prelude.{ℕ, zero, suc, Bool, false, cond, ◌&&◌, List, [], ◌∷◌, leb, eqb}
+use Rattle.std.specs.Prelude.{Option, Some, None, ℕ, zero, suc, Bool, false, cond, ◌&&◌, List, [], ◌∷◌, leb, eqb}
 use Rattle.vlq_utf8.specs.declared.Lead.{Lead}
-use Rattle.vlq_utf8.specs.declared.Lead.TheVariants.{Followers, Bad}
 
 -- A row: the first and the last lead byte, how many followers they have, and the lowest and the highest first follower.
 pub data Row : Type 0 where
@@ -22,16 +21,16 @@ lead_rows =
     ∷ []
 
 -- what the row that holds b says; where none does, b is no lead byte
-unfoldable pub lead_in : List Row → ℕ → Lead
-lead_in [] b = Bad
-lead_in (row first last n low high ∷ rs) b = cond (leb first b && leb b last) (Followers n low high) (lead_in rs b)
+unfoldable pub lead_in : List Row → ℕ → Option Lead
+lead_in [] b = None
+lead_in (row first last n low high ∷ rs) b = cond (leb first b && leb b last) (Some (record { followers = n; low = low; high = high })) (lead_in rs b)
 
-unfoldable pub lead_of : ℕ → Lead
+unfoldable pub lead_of : ℕ → Option Lead
 lead_of b = lead_in lead_rows b
 
-abbrev pub after_lead : Lead → (ℕ → ℕ → ℕ → Bool) → Bool
-after_lead (Followers n low high) rest = rest n low high
-after_lead Bad rest = false
+abbrev pub after_lead : Option Lead → (ℕ → ℕ → ℕ → Bool) → Bool
+after_lead (Some lead) rest = rest lead.followers lead.low lead.high
+after_lead None rest = false
 
 -- UTF8-octets where n followers are still due, the first of them from low to high; each after it is UTF8-tail = %x80-BF
 unfoldable pub utf8_from : List ℕ → ℕ → ℕ → ℕ → Bool

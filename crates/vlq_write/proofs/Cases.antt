@@ -1,8 +1,6 @@
 -- The order of a writer's questions, computed: the place, 255 bytes, UTF-8, room. One lemma covers the table.
 use Rattle.std.specs.Prelude.{ℕ, List, [], ◌∷◌, ◌≡◌, refl, replicate}
-use Rattle.wire.specs.declared.Written.{Written}
-use Rattle.wire.specs.declared.Written.TheVariants.{To, Refused}
-use Rattle.wire.specs.Output.{put, asked, written, output_after}
+use Rattle.wire.specs.Output.{Written, To, Refused, put, asked, written, output_after}
 use Rattle.vlq_utf8.specs.Utf8.{lead_rows, lead_in, lead_of, utf8_from, utf8}
 use Rattle.vlq.specs.ShortString.{short_string_bytes}
 use Rattle.vlq_write.specs.Asked.{short_string_asked}

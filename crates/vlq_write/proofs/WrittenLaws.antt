@@ -2,9 +2,8 @@
 use Rattle.std.specs.Prelude.{ℕ, ◌^◌, ◌≤◌, ◌<◌, List, [], ◌∷◌, ◌≡◌, length}
 use Rattle.std.proofs.Math.Path.{ap}
 use Rattle.std.proofs.Common.{sym, ◌∙◌}
-use Rattle.wire.specs.declared.Written.TheVariants.{To}
+use Rattle.wire.specs.Output.{To, put, Question, written, output_after}
 use Rattle.wire.specs.Reader.{got, Reader, byte, Segment, part}
-use Rattle.wire.specs.Output.{put, Question, written, output_after}
 use Rattle.wire.proofs.OutputLaws.{written-accepted}
 use Rattle.wire.specs.ReadsBack.{ReadsBack}
 use Rattle.wire.proofs.ReadsBackLaws.{stands-put, reads_byte, reads-part}

@@ -3,18 +3,18 @@
 #![tactic(auto)]
 
 ghost use Rattle.std.specs.Prelude.{◌≡◌, [], ◌+◌, ◌≤◌, length};
-ghost use Rattle.wire.specs.Output.{written, output_after, Wrote};
+ghost use Rattle.wire.specs.Output.{said, written, output_after, Wrote};
 ghost use Rattle.vlq.specs.Vlq.{vlq_bytes};
 ghost use Rattle.vlq.specs.ShortString.{max_short_string, short_string_bytes};
 ghost use Rattle.wire_output.specs.Asked.{written_for};
 ghost use Rattle.vlq_write.specs.Asked.{short_string_asked};
 
 use vlq::MAX_SHORT_STRING;
-use wire::Written;
+use wire::Refusal;
 use wire_output::{ask_room, has_room};
 use wire_part_write::write_part;
 
-// How many bytes the shortest VLQ of v has.
+// How many bytes the shortest VLQ of v has. The turns go by the value: there is no index to count.
 pub fn vlq_len(v: u64) -> usize
     ensures { result ≡ length (vlq_bytes v) }
 {
@@ -22,55 +22,54 @@ pub fn vlq_len(v: u64) -> usize
     let mut rest = v;
     while 0x80 <= rest {
         n += 1;
-        rest = rest / 0x80;
+        rest /= 0x80;
     }
     n
 }
 
 // The shortest VLQ of value. No VLQ has more than ten bytes.
-pub fn write_vlq(out: &mut [u8], at: usize, value: u64) -> Written
-    ensures value { result ≡ written [] [] out.old at (vlq_bytes value) }
-    ensures out_after { out.new ≡ output_after result out.old at (vlq_bytes value) }
+#[tactic(auto, unfolding(wire::specs::Output::asked, wire::specs::Output::written, wire::specs::Output::output_after), using(vlq::proofs::VlqLaws::vlq_ten))]
+pub fn write_vlq(out: &mut [u8], at: usize, value: u64) -> Result<usize, Refusal>
+    ensures value { said result ≡ written [] [] out.old at (vlq_bytes value) }
+    ensures out_after { out.new ≡ output_after (said result) out.old at (vlq_bytes value) }
 {
     if has_room(out.len(), at, 10) {
-        return Written::To(put_vlq(out, at, value));
+        return Ok(put_vlq(out, at, value));
     }
-    let answer = ask_room(out.len(), at, vlq_len(value));
-    if let Written::To(_) = answer {
-        put_vlq(out, at, value);
-    }
-    answer
+    let end = ask_room(out.len(), at, vlq_len(value))?;
+    put_vlq(out, at, value);
+    Ok(end)
 }
 
 // A length byte, then the bytes of s, which are UTF-8.
-pub fn write_short_string(out: &mut [u8], at: usize, s: &[u8]) -> Written
-    ensures value { result ≡ written [] (short_string_asked s.now) out.old at (short_string_bytes s.now) }
-    ensures out_after { out.new ≡ output_after result out.old at (short_string_bytes s.now) }
+#[tactic(auto, unfolding(wire::specs::Output::asked, wire::specs::Output::written, wire::specs::Output::output_after))]
+pub fn write_short_string(out: &mut [u8], at: usize, s: &[u8]) -> Result<usize, Refusal>
+    ensures value { said result ≡ written [] (short_string_asked s.now) out.old at (short_string_bytes s.now) }
+    ensures out_after { out.new ≡ output_after (said result) out.old at (short_string_bytes s.now) }
 {
-    let answer = ask_short_string(out.len(), at, s);
-    if let Written::To(_) = answer {
-        put_short_string(out, at, s);
-    }
-    answer
+    let end = ask_short_string(out.len(), at, s)?;
+    put_short_string(out, at, s);
+    Ok(end)
 }
 
 // What write_short_string says of an output of len bytes.
-fn ask_short_string(len: usize, at: usize, s: &[u8]) -> Written
-    ensures { result ≡ written_for [] (short_string_asked s.now) len at (length (short_string_bytes s.now)) }
+#[tactic(auto, unfolding(wire::specs::Output::asked))]
+fn ask_short_string(len: usize, at: usize, s: &[u8]) -> Result<usize, Refusal>
+    ensures { said result ≡ written_for [] (short_string_asked s.now) len at (length (short_string_bytes s.now)) }
 {
     if len < at {
-        return Written::Refused(12);
+        return Err(Refusal::Outside);
     }
     if MAX_SHORT_STRING < s.len() {
-        return Written::Refused(13);
+        return Err(Refusal::StringTooLong);
     }
     if !vlq_utf8::is_utf8(s) {
-        return Written::Refused(4);
+        return Err(Refusal::InvalidUtf8);
     }
     ask_room(len, at, s.len() + 1)
 }
 
-// Stores the shortest VLQ of value and gives the place after it.
+// Stores the shortest VLQ of value, and gives the place after it.
 fn put_vlq(out: &mut [u8], at: usize, value: u64) -> usize
     requires { at + length (vlq_bytes value) ≤ length out.old }
     ensures { Wrote out.old at (vlq_bytes value) result out.new }
@@ -80,7 +79,7 @@ fn put_vlq(out: &mut [u8], at: usize, value: u64) -> usize
     while 0x80 <= rest {
         out[o] = (rest % 0x80 + 0x80) as u8;
         o += 1;
-        rest = rest / 0x80;
+        rest /= 0x80;
     }
     out[o] = rest as u8;
     o + 1
@@ -93,6 +92,5 @@ fn put_short_string(out: &mut [u8], at: usize, s: &[u8]) -> usize
     ensures { Wrote out.old at (short_string_bytes s.now) result out.new }
 {
     out[at] = s.len() as u8;
-    write_part(out, at + 1, s);
-    at + 1 + s.len()
+    write_part(out, at + 1, s).unwrap()
 }

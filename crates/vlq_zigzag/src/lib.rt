@@ -4,6 +4,7 @@
 ghost use Rattle.std.specs.Prelude.{◌≡◌};
 ghost use Rattle.vlq_zigzag.specs.Zigzag.{zigzag_encode, zigzag_decode};
 
+// C asks for both widths; the narrow functions are the wide ones.
 pub fn zigzag_encode(value: i32) -> u32
     ensures { result ≡ zigzag_encode value }
 {

@@ -7,9 +7,7 @@ use Rattle.std.specs.Prelude.{true, ◌↔◌, ◌≡◌, ltb, length}
 use mathlib.Core.List.{List}
 use Rattle.std.proofs.Math.Path.{refl, sym}
 use Rattle.wire.specs.Bytes.{every}
-use Rattle.wire.specs.Output.{output_after}
-use Rattle.wire.specs.declared.Written.{Written}
-use Rattle.wire.specs.declared.Written.TheVariants.{To, Refused}
+use Rattle.wire.specs.Output.{output_after, Written, To, Refused}
 use Rattle.types.specs.declared.Network.{Network}
 use Rattle.handshake.specs.Value.{AddressTyped, handshake_bytes}
 use Rattle.handshake.specs.Tables.{Tables}

@@ -9,7 +9,7 @@ use borrow.Author.Tests.{eqb-true}
 use Rattle.wire.proofs.OutputLaws.{written-accepted}
 use Rattle.wire.specs.Reader.{Answer, got, refused}
 use Rattle.wire.specs.ReadsBack.{StandsAt, ReadsBack}
-use Rattle.wire.specs.declared.Written.TheVariants.{To}
+use Rattle.wire.specs.Output.{To}
 use Rattle.wire.specs.Stable.{Beyond, CutTo, kept, own, short}
 use Rattle.vlq.specs.Vlq.{limit}
 use Rattle.types.specs.declared.Network.{Network}

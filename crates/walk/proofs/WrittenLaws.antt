@@ -6,12 +6,10 @@ use mathlib.Core.List.{List, [], ◌∷◌, ◌++◌, map, flat_map, append_asso
 use Rattle.std.specs.Prelude.{◌≡◌, eqb, drop}
 use Rattle.std.proofs.Math.Path.{refl, sym, ap}
 use Rattle.std.proofs.Math.ListN.{length, take, length-append}
-use Rattle.wire.specs.Output.{put, output_after}
+use Rattle.wire.specs.Output.{put, output_after, Written, To, Refused}
 use Rattle.wire.proofs.OutputLaws.{length-put, put-eq}
 use Rattle.wire.specs.ReadsBack.{StandsAt}
 use Rattle.wire.proofs.ReadsBackLaws.{stands-left, stands_right, stands-whole}
-use Rattle.wire.specs.declared.Written.{Written}
-use Rattle.wire.specs.declared.Written.TheVariants.{To, Refused}
 use Rattle.types.specs.declared.Network.{Network}
 use Rattle.walk.specs.Walk.{opened, clean, Reading, walk, reading}
 use Rattle.walk.proofs.WalkLaws.{open_at, ReaderLaws, item_then, walk-over, walk-goes}

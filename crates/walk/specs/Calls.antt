@@ -2,9 +2,7 @@
 -- as the contract of every writer ensures. Of the step: its answers from a place on. `write_all` and `session_reading` compute the same from the writes and
 -- the bytes alone (`Theorems`: `CallsAreWrites`, `StepsAreReading`).
 use Rattle.std.specs.Prelude.{ℕ, List, [], ◌∷◌, ◌≡◌}
-use Rattle.wire.specs.Output.{output_after}
-use Rattle.wire.specs.declared.Written.{Written}
-use Rattle.wire.specs.declared.Written.TheVariants.{To, Refused}
+use Rattle.wire.specs.Output.{output_after, Written, To, Refused}
 use Rattle.types.specs.declared.Network.{Network}
 use Rattle.walk.specs.Walk.{Layer, Item, Step, item, clean_end, stop, clean, stopped, Reading}
 use Rattle.walk.specs.Session.{Content, session_step}

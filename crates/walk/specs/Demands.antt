@@ -4,8 +4,7 @@ use Rattle.std.specs.Prelude.{ℕ, ◌+◌, ◌≤◌, ◌↔◌, ◌⊎◌, ◌
 use mathlib.Core.List.{List, [], ◌∷◌, ◌++◌, map, flat_map}
 use Rattle.wire.specs.Bytes.{Each}
 use Rattle.wire.specs.Reader.{Segment}
-use Rattle.wire.specs.declared.Written.{Written}
-use Rattle.wire.specs.declared.Written.TheVariants.{To, Refused}
+use Rattle.wire.specs.Output.{Written, To, Refused}
 use Rattle.types.specs.declared.Network.{Network}
 use Rattle.handshake.specs.Entry.{EntryFeature, Entry}
 use Rattle.messages.specs.Message.{Payload, Message, get_peers, peers, modifier_request, modifier_response, inv, sync_info, unknown}

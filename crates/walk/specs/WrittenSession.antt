@@ -1,9 +1,7 @@
 -- Written sessions (document 01, "The session walk", the paragraph on written sessions): lists of writes from place 0 of an output.
 use Rattle.std.specs.Prelude.{ℕ, ◌^◌, ◌<◌, Bool, true, false, List, [], ◌∷◌, map, ◌≡◌, ltb, take}
 use Rattle.wire.specs.Bytes.{every}
-use Rattle.wire.specs.Output.{output_after}
-use Rattle.wire.specs.declared.Written.{Written}
-use Rattle.wire.specs.declared.Written.TheVariants.{To, Refused}
+use Rattle.wire.specs.Output.{output_after, Written, To, Refused}
 use Rattle.types.specs.declared.Network.{Network}
 use Rattle.handshake.specs.Value.{AddressTyped, HandshakeValue, handshake_value, handshake_bytes}
 use Rattle.handshake.specs.Tables.{Tables}

@@ -3,11 +3,11 @@
 use Rattle.std.specs.Prelude.{ℕ, ◌+◌, ◌^◌, ◌≤◌, ◌<◌, Bool, List, ◌≡◌, ltb, leb, get_or, take, drop}
 use native.Mathlib.Omega.{arith}
 use Rattle.std.proofs.Math.Bool.{true, false, cond}
-use Rattle.std.proofs.Common.{sym, ap, ◌∙◌, length-take, length-drop, drop-drop}
+use Rattle.std.proofs.Common.{Ok, sym, ap, ◌∙◌, length-take, length-drop, drop-drop}
 use Rattle.std.proofs.Math.ListN.{length}
 use borrow.Author.Tests.{le-leb, lt-ltb, leb-true}
 use Rattle.wire.specs.Reader.{Answer, got, refused, Reader, bind, guard, place, byte, Segment, part, list_of, map_answer}
-use Rattle.wire.proofs.ReaderLaws.{map-value, Taken, field-taken}
+use Rattle.wire.proofs.ReaderLaws.{map-value, map-got, Taken, field-taken}
 use Rattle.wire.proofs.AnswerLaws.{no_answer, value_of, bind-got}
 use Rattle.wire.proofs.GivesLaws.{Gives, PartGiven, gives_then, gives-any, gives-pure, gives_part}
 use Rattle.wire.specs.ReadsBack.{StandsAt}
@@ -16,7 +16,6 @@ use Rattle.vlq.specs.Vlq.{vlq_length}
 use Rattle.vlq.specs.ShortString.{short_string}
 use Rattle.types.specs.Places.{located}
 use Rattle.types.specs.declared.StreamPlace.{StreamPlace}
-use Rattle.types.specs.declared.Located.TheVariants.{At, Refused}
 use Rattle.frame_read.specs.Answers.{part_in}
 use Rattle.frame_read.specs.declared.StreamPart.{StreamPart}
 use Rattle.handshake.specs.Entry.{version, address_if, feature, Entry, entry}
@@ -31,26 +30,15 @@ use Rattle.messages_response_read.specs.Answers.{payload_of}
 use Rattle.messages_inventory_read.specs.Parts.{items, items_start, item_by_index, item_at, id_at}
 use Rattle.messages_response_read.specs.Parts.{payload_at}
 use Rattle.messages_peers_read.specs.Parts.{entries, entries_start, entry_at}
+use Rattle.walk_by_index.specs.Answers.{stream_id_answer}
 use Rattle.walk_by_index.specs.InStream.{is_inside, in_stream, stream_entry, stream_payload, entry_to_stream, id_to_stream, payload_to_stream, from_body, entry_in_stream, id_in_stream, payload_in_stream}
 
 -- ---- `from_body` and `id_to_stream`, case by case
 
 module _ {A B : Type 0} (f : A → ℕ → Answer B) (s : List ℕ) (body : StreamPart) where
-  pub from-outside : (answer : Answer A) → is_inside s body ≡ false → refused 12 ≡ from_body f s body answer
-  unfolding from_body
-  from-outside answer out = rw out
-
   pub from-got : (answer : Answer A) {a : A} {next : ℕ} → is_inside s body ≡ true → answer ≡ got a next → f a next ≡ from_body f s body answer
   unfolding from_body
   from-got answer inside is = rw (inside, is)
-
-  pub from-refused : (answer : Answer A) {m : ℕ} → is_inside s body ≡ true → answer ≡ refused m → refused m ≡ from_body f s body answer
-  unfolding from_body
-  from-refused answer inside is = rw (inside, is)
-
-pub id-refused : (body : StreamPart) (at next : ℕ) {m : ℕ} → in_stream body at ≡ Refused m → refused m ≡ id_to_stream body at next
-unfolding id_to_stream
-id-refused body at next is = rw is
 
 pub inside-within : (s : List ℕ) (part : StreamPart) → is_inside s part ≡ true → part.start.0 + part.len ≤ length s
 unfolding is_inside
@@ -127,9 +115,6 @@ first-within =
 abbrev pub place_in_stream : StreamPart → ℕ → StreamPlace
 place_in_stream body at = record { 0 = body.start.0 + at }
 
-place_of : {p q : StreamPlace} → At p ≡ At q → p ≡ q
-place_of e = cc
-
 module _ (s : List ℕ) (body : StreamPart) (fits : length s < 2 ^ 64) (inside : is_inside s body ≡ true) where
   within : body.start.0 + body.len ≤ length s
   within = inside-within s body inside
@@ -138,7 +123,7 @@ module _ (s : List ℕ) (body : StreamPart) (fits : length s < 2 ^ 64) (inside :
   body-length = let w = within in simp (length-take, length-drop) (omega arith)
 
   -- a place of the body is as far after its start, and none is refused
-  pub in_stream_lem : (at : ℕ) → at ≤ body.len → in_stream body at ≡ At (place_in_stream body at)
+  pub in_stream_lem : (at : ℕ) → at ≤ body.len → in_stream body at ≡ Ok (place_in_stream body at)
   unfolding in_stream located
   in_stream_lem at h = let w = within in rw (le-leb at body.len h, lt-ltb (body.start.0 + body.len) (2 ^ 64) (omega arith))
 
@@ -208,9 +193,8 @@ module _ (s : List ℕ) (body : StreamPart) (fits : length s < 2 ^ 64) (inside :
       )
 
   -- so an id that is located ends 32 bytes after its place
-  pub id_at_lem : (k : ℕ) {g : Segment} {e : ℕ} {p : StreamPlace} → id_at k (part_in s body) ≡ got g e → in_stream body g.start ≡ At p
-      → got p (p.0 + 32) ≡ id_in_stream k s body
-  id_at_lem k {g} {e} {p} q is =
-      let r = id_in_stream_lem k q in
-      let at = in_stream_lem g.start (starts_within g.start g.bytes (id-read k (part_in s body) q).1.placed) in
-      rw (place_of (sym is ∙ at)) r.0
+  pub id_at_lem : (k : ℕ) {at next : ℕ} → map_answer id_of (id_at k (part_in s body)) ≡ got at next → stream_id_answer (in_stream body at) ≡ id_in_stream k s body
+  id_at_lem k q =
+      let p = map-got id_of q in
+      let located = in_stream_lem p.0.start (starts_within p.0.start p.0.bytes (id-read k (part_in s body) p.1).1.placed) in
+      rw (← p.2, located) (id_in_stream_lem k p.1).0

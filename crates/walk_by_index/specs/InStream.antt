@@ -1,11 +1,11 @@
 -- What is reached by index from an item of the stream: what the reader by index gives of the bytes of its body, each place as a place in the stream
 -- (document 01, "The session walk": one becomes the other only through the body's start).
-use Rattle.std.specs.Prelude.{ℕ, ◌+◌, Bool, cond, List, leb, length}
+use Rattle.std.specs.Prelude.{ℕ, ◌+◌, Bool, cond, List, leb, length, Result, Ok, Err}
 use Rattle.wire.specs.Reader.{Answer, got, refused, bind, map_answer}
+use Rattle.wire.specs.Refusals.{number}
+use Rattle.wire.specs.declared.Refusal.{Refusal}
 use Rattle.types.specs.Places.{located}
 use Rattle.types.specs.declared.StreamPlace.{StreamPlace}
-use Rattle.types.specs.declared.Located.{Located}
-use Rattle.types.specs.declared.Located.TheVariants.{At, Refused}
 use Rattle.handshake_read.specs.Answers.{peer_spec_of}
 use Rattle.handshake_read.specs.declared.PeerSpec.{PeerSpec}
 use Rattle.frame_read.specs.Answers.{part_in}
@@ -26,13 +26,13 @@ is_inside s part = leb (part.start.0 + part.len) (length s)
 -- ---- places of a body, as places in the stream
 
 -- a place outside the body, which no reader gives, is refused
-unfoldable pub in_stream : StreamPart → ℕ → Located
+unfoldable pub in_stream : StreamPart → ℕ → Result StreamPlace Refusal
 in_stream body at = located body.start body.len (record { 0 = at })
 
 -- what follows a place: it goes on to f, a refusal stays
-abbrev pub located_then : {B : Type 0} → Located → (StreamPlace → Answer B) → Answer B
-located_then (At place) f = f place
-located_then (Refused m) f = refused m
+abbrev pub located_then : {B : Type 0} → Result StreamPlace Refusal → (StreamPlace → Answer B) → Answer B
+located_then (Ok place) f = f place
+located_then (Err m) f = refused (number m)
 
 -- an entry, given the places of its agent, its name and its first feature; a payload, given those of its id and its bytes
 abbrev pub stream_entry : PeerSpec → StreamPlace → StreamPlace → StreamPlace → StreamEntry

@@ -5,19 +5,20 @@ use mathlib.Core.Path.{◌≡◌}
 use contract.Lifetimes.{Lfts}
 use lib.ListN.{length}
 use Rattle.wire.specs.Reader.{map_answer}
+use Rattle.vlq.specs.Answers.{read_answer}
 use Rattle.vlq.specs.declared.Cursor.{Cursor}
+use Rattle.types.specs.Answers.{body_answer}
 use Rattle.types.specs.declared.BodyPlace.{BodyPlace}
 use Rattle.types.specs.declared.Network.{Network}
 use Rattle.types.specs.declared.StreamPlace.{StreamPlace}
 use Rattle.handshake.specs.Entry.{entry, feature}
-use Rattle.handshake_read.specs.Answers.{feature_of, peer_spec_of, feature_answer}
+use Rattle.handshake_read.specs.Answers.{feature_of, peer_spec_of}
 use Rattle.handshake_read.specs.Parts.{feature_at}
 use Rattle.messages.specs.Message.{payload_after}
 use Rattle.messages_inventory_read.specs.Answers.{id_of, id_answer}
-use Rattle.messages_response_read.specs.Answers.{payload_of, payload_sum, payload_answer, payload_by_index_answer}
+use Rattle.messages_response_read.specs.Answers.{payload_of, payload_sum}
 use Rattle.messages_inventory_read.specs.Parts.{id_at}
 use Rattle.messages_response_read.specs.Parts.{payload_at}
-use Rattle.messages_peers_read.specs.Answers.{peer_entry_answer}
 use Rattle.messages_peers_read.specs.Parts.{entry_at}
 use Rattle.handshake_read.proofs.feature_by_index.Reads as feature_by_index
 use Rattle.handshake_read.proofs.read_feature.Reads as read_feature
@@ -42,27 +43,27 @@ pub id_by_index_lem : (κs : Lfts 1) (body : _) (index : ℕ) (r left : _) → i
 id_by_index_lem κs body index r left c = c
 
 pub payload_by_index_lem : (κs : Lfts 1) (body : _) (index : ℕ) (r left : _) → payload_by_index.Post κs (body, (index, tt)) r left
-    → payload_by_index_answer r ≡ map_answer payload_of (payload_at index body.now)
+    → body_answer r ≡ map_answer payload_of (payload_at index body.now)
 payload_by_index_lem κs body index r left c = c
 
 pub entry_by_index_lem : (κs : Lfts 1) (body : _) (cap index : ℕ) (r left : _) → entry_by_index.Post κs (body, (cap, (index, tt))) r left
-    → peer_entry_answer r ≡ map_answer peer_spec_of (entry_at cap index body.now)
+    → body_answer r ≡ map_answer peer_spec_of (entry_at cap index body.now)
 entry_by_index_lem κs body cap index r left c = c
 
 pub feature_by_index_lem : (κs : Lfts 1) (s : _) (at : Cursor) (index : ℕ) (r left : _) → feature_by_index.Post κs (s, (at, (index, tt))) r left
-    → feature_answer r ≡ map_answer feature_of (feature_at index s.now at.at)
+    → read_answer r ≡ map_answer feature_of (feature_at index s.now at.at)
 feature_by_index_lem κs s at index r left c = c
 
 -- ---- from a place on
 
 pub payload-from : (κs : Lfts 1) (body : _) (at : BodyPlace) (total : ℕ) (r left : _) → read_payload.Post κs (body, (at, (total, tt))) r left
-    → payload_answer r ≡ map_answer (payload_sum total) (payload_after (length body.now) total body.now at.0)
+    → body_answer r ≡ map_answer (payload_sum total) (payload_after (length body.now) total body.now at.0)
 payload-from κs body at total r left c = c
 
 pub entry-from : (κs : Lfts 1) (body : _) (at : BodyPlace) (r left : _) → entry-reads.Post κs (body, (at, tt)) r left
-    → peer_entry_answer r ≡ map_answer peer_spec_of (entry body.now at.0)
+    → body_answer r ≡ map_answer peer_spec_of (entry body.now at.0)
 entry-from κs body at r left c = c
 
 pub feature-from : (κs : Lfts 1) (s : _) (at : Cursor) (r left : _) → read_feature.Post κs (s, (at, tt)) r left
-    → feature_answer r ≡ map_answer feature_of (feature s.now at.at)
+    → read_answer r ≡ map_answer feature_of (feature s.now at.at)
 feature-from κs s at r left c = c

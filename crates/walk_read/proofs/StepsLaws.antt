@@ -107,3 +107,5 @@ module _ (network : Network) (cap : ℕ) (s : List ℕ) (at : ℕ) where
       opens : (at : ℕ) → 0 < at → open_at Content (handshake_at network) (message_at network cap) s at ≡ message_at network cap s at
       opens zero h = absurd (omega arith)
       opens (suc at) h = refl
+
+pub ruleset step_laws = (at-start, at-end, past_end, at-frame)

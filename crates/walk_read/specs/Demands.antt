@@ -1,6 +1,6 @@
 -- What the library was asked for of sessions, said over the answers of its steps. Each sentence stands beside its statement; `DemandsProved` derives it
 -- from the theorems on what is given, so that a weaker theorem doesn't serve.
-use Rattle.std.specs.Prelude.{ℕ, ◌+◌, ◌≤◌, List, [], ◌∷◌, ◌++◌, map, ◌↔◌, ◌≡◌, length, take}
+use Rattle.std.specs.Prelude.{ℕ, ◌≤◌, List, [], ◌∷◌, ◌++◌, map, ◌↔◌, ◌≡◌, length, take}
 use Rattle.wire.specs.Reader.{got, list_of}
 use Rattle.types.specs.declared.Network.{Network}
 use Rattle.handshake.specs.Entry.{Entry, entry}

@@ -5,12 +5,15 @@ ghost use Rattle.std.specs.Prelude.{◌≡◌, ◌+◌, ◌<◌, ◌≤◌, leng
 ghost use Rattle.messages.specs.Message.{message};
 ghost use Rattle.walk.specs.Session.{handshake_at, message_at, session_step};
 ghost use Rattle.walk.specs.Walk.{step_to};
+ghost use Rattle.wire.specs.Refusals.{number};
 ghost use Rattle.walk_read.specs.Steps.{step_of, opened_step};
+ghost use Rattle.walk_read.specs.declared.StepRead.TheVariants.{Stop as stop_of};
 
-use frame_read::{Frame, FrameRead, StreamPart};
-use handshake_read::{Handshake, HandshakeRead};
-use messages_read::{Message, MessageRead};
+use frame_read::{Frame, StreamPart};
+use handshake_read::Handshake;
+use messages_read::Message;
 use types::{Network, StreamPlace};
+use wire::Refusal;
 
 // Where a refusal was made.
 #[derive(Clone, Copy)]
@@ -20,7 +23,8 @@ pub enum Layer {
     Body,
 }
 
-// The handshake of a session, with the verdict of validate_peer.
+// The handshake of a session, with the verdict of validate_peer. The verdict stays a number: document 01 says that an
+// item holds one, and step_of of specs/Steps does.
 #[derive(Clone, Copy)]
 pub struct HandshakeItem {
     pub start: StreamPlace,
@@ -29,8 +33,9 @@ pub struct HandshakeItem {
     pub verdict: u8,
 }
 
-// A frame of a session, opened as a message. Its places are places in the frame's body; through the body's start they become places in the stream,
-// one by BodyPlace::in_stream, and what is reached by index by the functions of walk_by_index.
+// A frame of a session, opened as a message. Its places are places in the frame's body; through the body's start they
+// become places in the stream, one by BodyPlace::in_stream, and what is reached by index by the functions of
+// walk_by_index.
 #[derive(Clone, Copy)]
 pub struct MessageItem {
     pub start: StreamPlace,
@@ -40,7 +45,7 @@ pub struct MessageItem {
     pub message: Message,
 }
 
-// A refusal: its layer and number, and where the item starts.
+// A refusal: its layer and number, and where the item starts. The number stays one, for the same reason.
 #[derive(Clone, Copy)]
 pub struct Stop {
     pub layer: Layer,
@@ -58,7 +63,9 @@ pub enum StepRead {
     Outside,
 }
 
-// The step at a place: a handshake at 0, the clean end at the length, and otherwise a message, Peers bodies with the cap.
+// The step at a place: a handshake at 0, the clean end at the length, and otherwise a message, Peers bodies with the
+// cap.
+#[tactic(auto, using(crate::proofs::StepsLaws::step_laws))]
 pub fn step(s: &[u8], network: Network, cap: usize, at: StreamPlace) -> StepRead
     ensures { result ≡ step_of network s.now (session_step network cap s.now at.0) }
 {
@@ -81,8 +88,8 @@ fn handshake_step(s: &[u8], network: Network) -> StepRead
 {
     let start = StreamPlace(0);
     match handshake_read::parse(s) {
-        HandshakeRead::Value(handshake, c) => {
-            let verdict = handshake_verdict::peer_verdict(s, handshake.peer, network);
+        Ok((handshake, c)) => {
+            let verdict = handshake_verdict::peer_verdict(s, handshake.peer, network).number();
             let end = StreamPlace(c.at);
             StepRead::Handshake(HandshakeItem {
                 start,
@@ -91,11 +98,7 @@ fn handshake_step(s: &[u8], network: Network) -> StepRead
                 verdict,
             })
         }
-        HandshakeRead::Refused(number) => StepRead::Stop(Stop {
-            layer: Layer::Handshake,
-            number,
-            start,
-        }),
+        Err(refusal) => stopped(Layer::Handshake, refusal, start),
     }
 }
 
@@ -104,12 +107,8 @@ fn message_step(s: &[u8], network: Network, cap: usize, start: StreamPlace) -> S
     ensures { result ≡ step_of network s.now (step_to start.0 (message_at network cap s.now start.0)) }
 {
     match frame_read::decode(s, network, start) {
-        FrameRead::Value(frame, end) => open_frame(s, network, cap, start, frame, end),
-        FrameRead::Refused(number) => StepRead::Stop(Stop {
-            layer: Layer::Frame,
-            number,
-            start,
-        }),
+        Ok((frame, end)) => open_frame(s, network, cap, start, frame, end),
+        Err(refusal) => stopped(Layer::Frame, refusal, start),
     }
 }
 
@@ -130,17 +129,24 @@ fn open_frame(
     let from = body.start.0;
     let to = from + body.len;
     match messages_read::from_frame(code, &s[from..to], cap, network) {
-        MessageRead::Value(message, next) => StepRead::Message(MessageItem {
+        Ok((message, _)) => StepRead::Message(MessageItem {
             start,
             end,
             code,
             body,
             message,
         }),
-        MessageRead::Refused(number) => StepRead::Stop(Stop {
-            layer: Layer::Body,
-            number,
-            start,
-        }),
+        Err(refusal) => stopped(Layer::Body, refusal, start),
     }
+}
+
+// A refusal of a layer, in the item that starts at a place.
+fn stopped(layer: Layer, refusal: Refusal, start: StreamPlace) -> StepRead
+    ensures { result ≡ stop_of (record { layer = layer; number = number refusal; start = start }) }
+{
+    StepRead::Stop(Stop {
+        layer,
+        number: refusal.number(),
+        start,
+    })
 }

@@ -9,6 +9,8 @@ use mathlib.Core.List.{List, [], ◌∷◌, ◌++◌, map, flat_map, append_asso
 use Rattle.std.proofs.Math.Path.{refl, ap, sym}
 use Rattle.std.proofs.Math.Arith.{digits_lt, digits_div, digits_mod, mod-mul}
 use Rattle.std.proofs.Math.ListN.{length-append}
+use Rattle.std.proofs.lemmas.Cmp.{nat_eq_equiv}
+use Rattle.std.specs.Cmp.Lexicographic.{pointwise}
 use Rattle.wire.specs.Bytes.{big_endian_from, big_endian, big_endian_bytes, same_bytes, every, Each, none, more}
 
 pub and-true : (t u : Bool) → t && u ≡ true → (t ≡ true) × (u ≡ true)
@@ -111,6 +113,19 @@ same_self (b ∷ l) = rw (eq-eqb b b refl) (same_self l)
 
 pub same_exactly : (k l : List ℕ) → (same_bytes k l ≡ true) ↔ (k ≡ l)
 same_exactly k l = (same_equal k l, λ e. rw e (same_self l))
+
+-- what `==` of slices and `starts_with` say
+pub same_pointwise : (k l : List ℕ) → pointwise eqb l k ≡ same_bytes k l
+unfolding same_bytes
+same_pointwise [] [] = refl
+same_pointwise [] (b ∷ l) = refl
+same_pointwise (a ∷ k) [] = refl
+same_pointwise (a ∷ k) (b ∷ l) = ap₂ (λ (x y : Bool). x && y) (nat_eq_equiv.symm b a) (same_pointwise k l)
+
+pub same_none : (l : List ℕ) → 0 < length l → same_bytes [] l ≡ false
+unfolding same_bytes
+same_none [] h = absurd (omega arith)
+same_none (b ∷ l) h = refl
 
 -- ---- numbers, the highest byte first
 

@@ -1,9 +1,7 @@
 -- What a field answers, and what a writer says and leaves, at small numbers, computed from the definitions. One lemma covers both tables.
 use Rattle.std.specs.Prelude.{ℕ, true, false, List, [], ◌∷◌, ◌≡◌, refl, get_or}
-use Rattle.wire.specs.declared.Written.{Written}
-use Rattle.wire.specs.declared.Written.TheVariants.{To, Refused}
+use Rattle.wire.specs.Output.{Written, To, Refused, put, Question, ask, asked, written, output_after}
 use Rattle.wire.specs.Reader.{Answer, got, refused, field}
-use Rattle.wire.specs.Output.{put, Question, ask, asked, written, output_after}
 
 -- a field of n bytes of 5 6 7 at a place, whose value is its first byte; 8 if bytes are missing
 pub record FieldCase : Type 0 where

@@ -5,9 +5,7 @@ use Rattle.std.proofs.Math.Path.{refl}
 use borrow.Author.Tests.{lt-ltb, le-ltb, eq-eqb}
 use Rattle.wire.proofs.BytesLaws.{and-true}
 use Rattle.wire.specs.Numbers.{lt-or_ge}
-use Rattle.wire.specs.Output.{ask, sized}
-use Rattle.wire.specs.declared.Size.{Size}
-use Rattle.wire.specs.declared.Size.TheVariants.{Bytes, Refused}
+use Rattle.wire.specs.Output.{ask, sized, Size, Bytes, Unsized as Refused}
 use Rattle.wire.specs.Earliest.{position, earlier, together, Twice, numbers, of_one, of_other, of_both, fresh, distinct}
 
 -- a refusal with another number than n

@@ -1,4 +1,3 @@
-pub mod SameLoop
 pub mod AnswerLaws
 pub mod BytesLaws
 pub mod Cases
@@ -12,4 +11,3 @@ pub mod ReaderLaws
 pub mod ReadsBackLaws
 pub mod StableLaws
 pub mod StandingLaws
-pub mod UpToLaws

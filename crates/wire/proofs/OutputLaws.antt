@@ -7,9 +7,7 @@ use Rattle.std.proofs.lemmas.Bool.{lt-leb}
 use Rattle.std.proofs.Math.ListN.{length}
 use Rattle.std.proofs.lemmas.List.Edits.{sets, sets-eq}
 use Rattle.std.proofs.Math.Seq.{take-append_seam}
-use Rattle.wire.specs.declared.Written.{Written}
-use Rattle.wire.specs.declared.Written.TheVariants.{To, Refused}
-use Rattle.wire.specs.Output.{put, Question, ask, asked, written, output_after, Wrote}
+use Rattle.wire.specs.Output.{Written, To, Refused, put, Question, ask, asked, written, output_after, Wrote}
 
 pub length-put : (out : List ℕ) (at : ℕ) (bs : List ℕ) → length (put out at bs) ≡ length out
 unfolding put

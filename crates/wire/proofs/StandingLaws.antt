@@ -1,9 +1,7 @@
 -- Laws of `put` where bytes stand in the output already, and the output after a writer that accepted or refused.
 use Rattle.std.specs.Prelude.{ℕ, ◌+◌, ◌-◌, ◌≤◌, List, [], ◌++◌, ◌≡◌, refl, length, take, drop}
 use Rattle.std.proofs.Common.{arith, sym, ap, ◌∙◌, length-append, length-drop, take-append-drop, take-take, take-add, drop-drop, length-take-le}
-use Rattle.wire.specs.declared.Written.{Written}
-use Rattle.wire.specs.declared.Written.TheVariants.{To, Refused}
-use Rattle.wire.specs.Output.{put, output_after, Wrote}
+use Rattle.wire.specs.Output.{Written, To, Refused, put, output_after, Wrote}
 use Rattle.wire.proofs.OutputLaws.{length-put, put-put, put-eq, put-before, put-here, put-after}
 use Rattle.wire.proofs.ReaderLaws.{length_part}
 

@@ -1,9 +1,7 @@
 -- The same questions asked of two parts of a value. Of two refusals the one whose question comes first counts.
 -- Only for laws, proofs and private functions: no public contract and no theorem cites what follows.
 use Rattle.std.specs.Prelude.{ℕ, suc, ◌+◌, Bool, true, false, cond, ◌&&◌, List, [], ◌∷◌, map, eqb, ltb}
-use Rattle.wire.specs.Output.{Question, ask}
-use Rattle.wire.specs.declared.Size.{Size}
-use Rattle.wire.specs.declared.Size.TheVariants.{Bytes, Refused}
+use Rattle.wire.specs.Output.{Question, ask, Size, Bytes, Unsized as Refused}
 
 -- where a number stands in a list; its length if it doesn't
 unfoldable pub position : List ℕ → ℕ → ℕ

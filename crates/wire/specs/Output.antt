@@ -1,11 +1,28 @@
 -- How bytes are written into a lent output. A writer asks its questions in the order of document 01, "Questions": the first one answered "no"
 -- gives the refusal number and the output stays as it was; otherwise the bytes are stored from the place on.
-use Rattle.std.specs.Prelude.{ℕ, ◌+◌, Bool, cond, List, [], ◌∷◌, ◌++◌, ◌≡◌, leb, length, set}
-use Rattle.wire.specs.declared.Written.{Written}
-use Rattle.wire.specs.declared.Written.TheVariants.{To, Refused}
-use Rattle.wire.specs.declared.Size.{Size}
-use Rattle.wire.specs.declared.Size.TheVariants.{Bytes}
-use Rattle.wire.specs.declared.Size.TheVariants.{Refused as Unsized}
+use Rattle.std.specs.Prelude.{Result, Ok, Err, ℕ, ◌+◌, Bool, cond, List, [], ◌∷◌, ◌++◌, ◌≡◌, leb, length, set}
+use Rattle.wire.specs.Refusals.{number}
+use Rattle.wire.specs.declared.Refusal.{Refusal}
+
+-- what a writer says: the place after the bytes that it wrote, or the refusal number
+pub data Written : Type 0 where
+  To : ℕ → Written
+  Refused : ℕ → Written
+
+-- what is said of a value before it has a place: how many bytes it is written as, or the refusal number
+pub data Size : Type 0 where
+  Bytes : ℕ → Size
+  Unsized : ℕ → Size
+
+-- what the answer of a writer means
+abbrev pub said : Result ℕ Refusal → Written
+said (Ok end) = To end
+said (Err m) = Refused (number m)
+
+-- what is said of a value by code
+abbrev pub size_said : Result ℕ Refusal → Size
+size_said (Ok n) = Bytes n
+size_said (Err m) = Unsized (number m)
 
 -- out with the bytes bs stored one after the other from the place at
 unfoldable pub put : List ℕ → ℕ → List ℕ → List ℕ

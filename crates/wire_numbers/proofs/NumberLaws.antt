@@ -1,58 +1,76 @@
--- The loop over the bytes of a number keeps the number of the bytes so far. Then the lowest byte of a number.
-use Prim.Native.Nat.{ℕ, suc, ◌+◌, ◌*◌, ◌/◌, ◌%◌, ◌^◌, ◌≤◌, ◌<◌}
-use native.Mathlib.Nat.{pow-succ', pow-le-pow_right}
+-- The loop over the bytes of a number keeps the number of all of them. Then the bytes of a number, the lowest first.
+use Rattle.std.proofs.Common.{arith, ℕ, zero, suc, ◌+◌, ◌-◌, ◌*◌, ◌/◌, ◌%◌, ◌^◌, ◌≤◌, ◌<◌, List, [], ◌∷◌, ◌++◌, ◌≡◌, refl, sym, ap, append-nil, ◌∙◌, take, length, replicate, set}
+use Rattle.std.proofs.Math.Nat.{div-div-eq-div-mul}
 use native.Mathlib.Numerals.{add-one}
-use native.Mathlib.Omega.{arith}
-use mathlib.Core.List.{List, [], ◌∷◌, ◌++◌}
-use mathlib.Core.Path.{◌≡◌, refl, sym, ap, ◌∙◌}
-use lib.ListN.{length, get_or, take}
-use lib.Seq.{take-suc, take_all}
-use Rattle.wire.specs.Bytes.{big_endian_from, big_endian}
-use Rattle.wire.proofs.BytesLaws.{big_endian-append}
+use native.Mathlib.Nat.{pow-succ', pow-le-pow_right}
+use Rattle.wire.specs.Bytes.{big_endian_from, big_endian, big_endian_bytes}
 
--- x is the number of the first i bytes, of n at most
-pub record NumberSoFar (s : List ℕ) (n x i : ℕ) : Type 0 where
-  pub few : i ≤ n
-  pub short : n ≤ 8
-  pub below : x < 256 ^ i
-  pub same : x ≡ big_endian (take i s)
+-- n is the number of the bytes before the next left ones of rest, where all of N are bs
+pub record NumberSoFar (N : ℕ) (bs : List ℕ) (n left : ℕ) (rest : List ℕ) : Type 0 where
+  pub few : left ≤ N
+  pub short : N ≤ 8
+  pub below : n < 256 ^ (N - left)
+  pub same : big_endian_from n (take left rest) ≡ big_endian bs
 
-pub number-start : (s : List ℕ) (n : ℕ) → n ≤ 8 → NumberSoFar s n 0 0
-unfolding big_endian big_endian_from
-number-start s n h = record { few = omega arith; short = h; below = omega arith; same = refl }
+pub number-start : (N : ℕ) (s : List ℕ) → N ≤ 8 → NumberSoFar N (take N s) 0 N s
+unfolding big_endian
+number-start N s h = let none : N - N ≡ 0 = omega arith in record { few = omega arith; short = h; below = rw none (omega arith); same = refl }
 
-big_endian-one : (b : ℕ) → big_endian (b ∷ []) ≡ b
-unfolding big_endian big_endian_from
-big_endian-one b = omega arith
-
-module _ {s : List ℕ} {n x i : ℕ} (inv : NumberSoFar s n x i) where
-  pub number_fits : (b : ℕ) → i < n → b < 256 → x * 256 + b < 2 ^ 64
-  number_fits b h g =
-      let p : 256 ^ i ≤ 256 ^ 7 = pow-le-pow_right {n = 256} (omega arith) {i = i} {j = 7} (omega (arith, inv.short)) in
-      omega (arith, inv.below)
-
-  pub number_again : (b : ℕ) → b ≡ get_or s i 0 → b < 256 → i < n → i < length s → NumberSoFar s n (x * 256 + b) (i + 1)
-  number_again b e g h l =
+module _ {N : ℕ} {bs : List ℕ} {n left : ℕ} {rest : List ℕ} (inv : NumberSoFar N bs n left rest) where
+  pub number-again : {left' : ℕ} {rest' : List ℕ} (b : ℕ) → b < 256 → rest ≡ b ∷ rest' → left' + 1 ≡ left
+      → NumberSoFar N bs (n * 256 % 2 ^ 64 + b) left' rest'
+  unfolding big_endian_from
+  number-again {left' = left'} {rest' = rest'} b small e l =
+      let more : 256 ^ (N - left) ≤ 256 ^ 7 = pow-le-pow_right {n = 256} (omega arith) {i = N - left} {j = 7} (omega (arith, inv.short, inv.few)) in
+      let whole : n * 256 % 2 ^ 64 ≡ n * 256 = omega (arith, inv.below) in
+      let up : N - left' ≡ suc (N - left) = omega (arith, inv.few) in
       record {
-        few = omega arith;
+        few = omega (arith, inv.few);
         short = inv.short;
-        below = rw add-one (omega (arith, pow-succ' 256 i, inv.below));
-        same =
-            let f : take (suc i) s ≡ take i s ++ (b ∷ []) = take-suc s i 0 l ∙ rw e in
-            rw (add-one, f, big_endian-append (take i s) (b ∷ []), big_endian-one b, ← inv.same);
+        below = rw (whole, up) (omega (arith, pow-succ' 256 (N - left), inv.below));
+        same = rw whole (rw (e, sym l, add-one) at inv.same);
       }
 
-  pub number-end : n ≤ i → (x ≡ big_endian (take n s)) × (x < 256 ^ n)
-  number-end h = let e : i ≡ n = omega (arith, inv.few) in (inv.same ∙ rw e, rw (← e) inv.below)
-
   -- no byte is left
-  pub number-all : length s ≤ i → (x ≡ big_endian (take n s)) × (x < 256 ^ n)
-  number-all h =
-      let all : take i s ≡ take n s = take_all i s h ∙ sym (take_all n s (omega (arith, inv.few))) in
-      let b : 256 ^ i ≤ 256 ^ n = pow-le-pow_right {n = 256} (omega arith) {i = i} {j = n} inv.few in
-      (inv.same ∙ ap big_endian all, omega (arith, inv.below))
+  pub number-end : (0 < left → length rest ≡ 0) → (n ≡ big_endian bs) × (n < 256 ^ N)
+  unfolding big_endian_from
+  number-end e =
+      let b : 256 ^ (N - left) ≤ 256 ^ N = pow-le-pow_right {n = 256} (omega arith) {i = N - left} {j = N} (omega arith) in
+      (rw (none left rest e) at inv.same, omega (arith, inv.below))
+    where
+      none : (left : ℕ) (rest : List ℕ) → (0 < left → length rest ≡ 0) → take left rest ≡ []
+      none zero rest e = refl
+      none (suc left) [] e = refl
+      none (suc left) (b ∷ rest) e = let z = e (omega arith) in absurd (omega arith)
 
--- ---- the bytes of a number
+-- the lowest k bytes of n stand last, zeros before them, and rest is what is left of n
+pub record BytesSoFar (n left k rest : ℕ) (bs : List ℕ) : Type 0 where
+  pub stand : bs ≡ replicate left 0 ++ big_endian_bytes k n
+  pub over : rest ≡ n / 256 ^ k
 
-pub lowest : (n : ℕ) → n / 1 % 256 ≡ n % 256
-lowest n = omega arith
+pub bytes-start : (N n : ℕ) → BytesSoFar n N (N - N) n (replicate N 0)
+unfolding big_endian_bytes
+bytes-start N n = let none : N - N ≡ 0 = omega arith in rw none (record { stand = sym (append-nil (replicate N 0)); over = omega arith })
+
+pub bytes-again : {n left k k' rest : ℕ} {bs : List ℕ} → BytesSoFar n left k rest bs → 0 < left → k' ≡ suc k
+    → BytesSoFar n (left - 1) k' (rest / 256) (set bs (left - 1) (rest % 256))
+unfolding big_endian_bytes
+bytes-again {n = n} {left = zero} inv h up = absurd (omega arith)
+bytes-again {n = n} {left = suc j} {k = k} inv h up =
+    let one : suc j - 1 ≡ j = omega arith in
+    let power : 256 ^ k * 256 ≡ 256 ^ suc k = omega (arith, pow-succ' 256 k) in
+    rw (up, one)
+    (record {
+      stand = rw (inv.stand, inv.over) (seam j (n / 256 ^ k % 256) (big_endian_bytes k n));
+      over = rw inv.over (div-div-eq-div-mul n (256 ^ k) 256 ∙ ap (λ x. n / x) power);
+    })
+  where
+    seam : (j b : ℕ) (bs : List ℕ) → set (replicate (suc j) 0 ++ bs) j b ≡ replicate j 0 ++ b ∷ bs
+    seam zero b bs = refl
+    seam (suc j) b bs = ap (λ l. 0 ∷ l) (seam j b bs)
+
+pub bytes-end : (N : ℕ) {n left rest : ℕ} {bs : List ℕ} → BytesSoFar n left (N - left) rest bs → left ≤ 0 → bs ≡ big_endian_bytes N n
+bytes-end N {left = left} inv h =
+    let none : left ≡ 0 = omega arith in
+    let all : N - left ≡ N = omega arith in
+    rw (all, none) at inv.stand

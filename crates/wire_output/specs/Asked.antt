@@ -1,11 +1,6 @@
 -- What a writer says of an output of len bytes, by sizes (document 01, "Questions", Writers).
 use Rattle.std.specs.Prelude.{ℕ, ◌+◌, cond, List, [], ◌∷◌, ◌++◌, eqb, leb}
-use Rattle.wire.specs.Output.{Question, ask, asked}
-use Rattle.wire.specs.declared.Written.{Written}
-use Rattle.wire.specs.declared.Written.TheVariants.{To, Refused}
-use Rattle.wire.specs.declared.Size.{Size}
-use Rattle.wire.specs.declared.Size.TheVariants.{Bytes}
-use Rattle.wire.specs.declared.Size.TheVariants.{Refused as Unsized}
+use Rattle.wire.specs.Output.{Question, ask, asked, Written, To, Refused, Size, Bytes, Unsized}
 
 -- what a writer of any n bytes says of an output of any len bytes: `written`, which depends on nothing else of them
 abbrev pub written_for : List Question → List Question → ℕ → ℕ → ℕ → Written

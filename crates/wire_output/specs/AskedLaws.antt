@@ -3,11 +3,7 @@ use Rattle.std.specs.Prelude.{ℕ, ◌+◌, Bool, ◌≡◌, eqb, leb}
 use Rattle.std.proofs.Math.Bool.{true, false, cond}
 use mathlib.Core.List.{List, [], ◌∷◌, ◌++◌}
 use Rattle.std.proofs.Math.Path.{refl}
-use Rattle.wire.specs.Output.{Question, ask, asked, sized}
-use Rattle.wire.specs.declared.Written.{Written}
-use Rattle.wire.specs.declared.Written.TheVariants.{To, Refused}
-use Rattle.wire.specs.declared.Size.{Size}
-use Rattle.wire.specs.declared.Size.TheVariants.{Refused as Unsized}
+use Rattle.wire.specs.Output.{Question, ask, asked, sized, Written, To, Refused, Size, Unsized}
 use Rattle.wire_output.specs.Asked.{written_for, output_asked}
 
 -- no question has the number 16

@@ -2,7 +2,6 @@
 use Prim.Native.Char as Char
 use Rattle.std.specs.Prelude.{ℕ, zero, suc, ◌+◌, ◌/◌, ◌%◌, cond, List, [], ◌∷◌, ◌++◌, ltb}
 use Prim.Native.String.{String}
-use Prim.Native.String as String
 
 -- the bytes of a text
 abbrev pub ascii : String → List ℕ

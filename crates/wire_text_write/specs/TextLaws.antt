@@ -1,6 +1,6 @@
 -- What `io::decimal` makes of a number is the number in decimal, of at most 20 digits.
-use Rattle.std.specs.Prelude.{ℕ, zero, suc, ◌+◌, ◌-◌, ◌/◌, ◌%◌, ◌^◌, ◌≤◌, ◌<◌, List, ◌≡◌, length, take}
-use Rattle.std.proofs.Common.{pow-suc, arith, zero-lt-suc, ⊎_elim, ap, ◌∙◌, lt-ltb, le-ltb}
+use Rattle.std.specs.Prelude.{ℕ, zero, suc, ◌+◌, ◌-◌, ◌/◌, ◌%◌, ◌^◌, ◌≤◌, ◌<◌, Bool, true, false, cond, List, [], ◌∷◌, ◌++◌, ◌≡◌, ltb, length, take}
+use Rattle.std.proofs.Common.{pow-suc, arith, zero-lt-suc, ⊎_elim, ap, ◌∙◌, lt-ltb, le-ltb, length-append}
 use Rattle.std.proofs.Math.Nat.{one-le-pow, pow-le-pow_right}
 use Rattle.wire.specs.Numbers.{lt-or_ge}
 use Rattle.io.specs.Digits.{last_digits, hex_digit_ascii, IsDigitCount}
@@ -44,3 +44,20 @@ module _ (n k : ℕ) (ds : List ℕ) (fewest : IsDigitCount 10 1 n k) (small : n
 
   pub decimal-length : k ≡ length (take k ds) → (k ≡ length (decimal n)) × (k ≤ 20)
   decimal-length counted = (counted ∙ ap length decimal_spelled, (fewest_decimal n k fewest small).1)
+
+pub ruleset decimals = (decimal_spelled, decimal-length)
+
+-- ---- how many digits there are
+
+digits_within : (f n : ℕ) → length (decimal_in f n) ≤ f
+unfolding decimal_in
+digits_within zero n = omega arith
+digits_within (suc f) n = go (ltb n 10) (digits_within f (n / 10))
+  where
+    go : (b : Bool) → length (decimal_in f (n / 10)) ≤ f → length (cond b ((48 + n) ∷ []) (decimal_in f (n / 10) ++ ((48 + n % 10) ∷ []))) ≤ suc f
+    go true h = omega arith
+    go false h = omega (arith, length-append (decimal_in f (n / 10)) ((48 + n % 10) ∷ []), h)
+
+pub length-decimal : (n : ℕ) → length (decimal n) ≤ 20
+unfolding decimal
+length-decimal n = digits_within 20 n

@@ -2,13 +2,14 @@
 #![tactic(auto)]
 
 ghost use Rattle.std.specs.Prelude.{◌≡◌, [], ◌≤◌, length};
-ghost use Rattle.wire.specs.Output.{written, output_after};
+ghost use Rattle.wire.specs.Output.{said, written, output_after};
 ghost use Rattle.wire_text_write.specs.Text.{decimal};
 
-use wire::Written;
+use wire::Refusal;
 use wire_part_write::write_part;
 
 // How many digits n has in decimal.
+#[tactic(auto, using(crate::specs::TextLaws::decimals))]
 pub fn decimal_len(n: u64) -> usize
     ensures { (result ≡ length (decimal n)) × (result ≤ 20) }
 {
@@ -17,9 +18,10 @@ pub fn decimal_len(n: u64) -> usize
 }
 
 // n in decimal.
-pub fn write_decimal(out: &mut [u8], at: usize, n: u64) -> Written
-    ensures value { result ≡ written [] [] out.old at (decimal n) }
-    ensures out_after { out.new ≡ output_after result out.old at (decimal n) }
+#[tactic(auto, using(crate::specs::TextLaws::decimals))]
+pub fn write_decimal(out: &mut [u8], at: usize, n: u64) -> Result<usize, Refusal>
+    ensures value { said result ≡ written [] [] out.old at (decimal n) }
+    ensures out_after { out.new ≡ output_after (said result) out.old at (decimal n) }
 {
     let mut digits = [0u8; 20];
     let k = io::decimal(n, &mut digits);

@@ -9,4 +9,4 @@ law : (h m v u r : List ℕ) (t : ℕ) (f : Bool) → v ≡ work h t f → u ≡
 law h m v u r t f ev eu er = er ∙ ap (xored h) (eu ∙ ap (for 12 (round m)) ev) ∙ sym (F_parts h m t f)
 
 pub returns : goal.returns
-returns c = law _ _ _ _ _ _ _ c.work_vector-v.ensures c.rounds-v.ensures c.xor_halves-w.ensures
+returns c = law _ _ _ _ _ _ _ c.work_vector-v.ensures c.rounds-v.ensures c.xor_halves.ensures

@@ -9,4 +9,4 @@ law : (m v a b x : List ℕ) → a ≡ four m 0 v → b ≡ four m 4 a → x ≡
 law m v a b x ea eb ex = ex ∙ ap (four m 8) (eb ∙ ap (four m 4) ea) ∙ sym (rounds_fours m v)
 
 pub returns : goal.returns
-returns c = law _ _ _ _ _ c.rounds_0_to_3-v.ensures c.rounds_4_to_7-v.ensures c.rounds_8_to_11.ensures
+returns c = law _ _ _ _ _ c.four_rounds-v.ensures c.four_rounds-v-2.ensures c.four_rounds.ensures

@@ -1,18 +1,31 @@
 -- `frame_write::put_head` meets its contract: the magic was stored, the code, and then the body length.
-use native.Mathlib.Omega.{arith}
-use mathlib.Core.Path.{◌∙◌}
-use lib.ListN.{length-set}
+use Rattle.std.proofs.Common.{arith}
+use Rattle.std.proofs.lemmas.Grind.{common_steps}
 use Rattle.wire.proofs.OutputLaws.{wrote_length}
+use Rattle.wire_output.proofs.RoomLaws.{room-ok, wrote-ok}
 use Rattle.frame_write.proofs.Stores.{head_stored}
 use Rattle.frame_write.proofs.put_head.Goals as goal
 
-pub put_four-requires : goal.put_four-requires
-put_four-requires c = simp length-set (omega (arith, c.put_four-end.ensures.end, wrote_length c.put_four-end.ensures))
+pub unwrap-end-requires : goal.unwrap-end-requires
+unwrap-end-requires c = room-ok _ _ _ _ c.write_part.ensures.value (grind (arith, common_steps))
 
-pub shape_of-out : goal.shape_of-out
-shape_of-out c = wrote_length c.put_four.ensures ∙ simp length-set (wrote_length c.put_four-end.ensures)
+pub bounds-out-end : goal.bounds-out-end
+bounds-out-end c =
+    let m = wrote-ok _ _ _ _ c.write_part.ensures.value c.write_part.ensures.out_after c.unwrap-end.ensures in
+    grind (arith, common_steps, m.end, wrote_length m)
+
+pub overflow_add-end : goal.overflow_add-end
+overflow_add-end c =
+    let m = wrote-ok _ _ _ _ c.write_part.ensures.value c.write_part.ensures.out_after c.unwrap-end.ensures in
+    grind (arith, common_steps, m.end, wrote_length m)
+
+pub unwrap-requires : goal.unwrap-requires
+unwrap-requires c =
+    let m = wrote-ok _ _ _ _ c.write_part.ensures.value c.write_part.ensures.out_after c.unwrap-end.ensures in
+    room-ok _ _ _ _ c.write_part-2.ensures.value (grind (arith, common_steps, m.end, wrote_length m))
 
 pub returns : goal.returns
 returns c =
-    head_stored c.args.network c.args.code c.args.n c.magic-magic.ensures c.big_endian_bytes_4.ensures
-    c.put_four-end.ensures c.put_four.ensures
+    let magic = wrote-ok _ _ _ _ c.write_part.ensures.value c.write_part.ensures.out_after c.unwrap-end.ensures in
+    let size = wrote-ok _ _ _ _ c.write_part-2.ensures.value c.write_part-2.ensures.out_after c.unwrap.ensures in
+    head_stored c.args.network c.args.code c.args.n c.magic.ensures c.big_endian_bytes.ensures magic size

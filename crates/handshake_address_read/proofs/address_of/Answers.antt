@@ -7,14 +7,14 @@ use Rattle.handshake_address_read.proofs.address_of.Goals as goal
 
 pub returns-then-l-eq-IPV4_LENGTH : goal.returns-then-l-eq-IPV4_LENGTH
 returns-then-l-eq-IPV4_LENGTH c =
-    let x = number-part 4 c.args.s.now c.args.at (c.args.at + 4) (omega arith) c.big_endian_4.ensures in
-    address-v4 c.args.l c.args.s.now c.args.at c.args.port c.big_endian_4.result c.if-l-eq-IPV4_LENGTH.true x
+    let x = number-part 4 c.args.s.now c.args.at (c.args.at + 4) (omega arith) (c.big_endian.ensures.number (omega arith)) in
+    address-v4 c.args.l c.args.s.now c.args.at c.args.port c.big_endian.result c.if-l-eq-IPV4_LENGTH.true x
 
 pub returns-then-l-eq-IPV6_LENGTH : goal.returns-then-l-eq-IPV6_LENGTH
 returns-then-l-eq-IPV6_LENGTH c =
-    let x = number-part 8 c.args.s.now c.args.at (c.args.at + 8) (omega arith) c.big_endian_8-high.ensures in
-    let y = number-part 8 c.args.s.now (c.args.at + 8) (c.args.at + 16) (omega arith) c.big_endian_8-low.ensures in
-    address-v6 c.args.l c.args.s.now c.args.at c.args.port c.big_endian_8-high.result c.big_endian_8-low.result c.if-l-eq-IPV6_LENGTH.true (omega arith) x y
+    let x = number-part 8 c.args.s.now c.args.at (c.args.at + 8) (omega arith) (c.big_endian-high.ensures.number (omega arith)) in
+    let y = number-part 8 c.args.s.now (c.args.at + 8) (c.args.at + 16) (omega arith) (c.big_endian-low.ensures.number (omega arith)) in
+    address-v6 c.args.l c.args.s.now c.args.at c.args.port c.big_endian-high.result c.big_endian-low.result c.if-l-eq-IPV6_LENGTH.true (omega arith) x y
 
 pub returns : goal.returns
 returns c = address-none c.args.l c.args.s.now c.args.at c.args.port c.if-l-eq-IPV4_LENGTH.false c.if-l-eq-IPV6_LENGTH.false

@@ -1,9 +1,6 @@
 -- `handshake_address_write::put_address` meets its contract: one arm for each kind of address.
-use native.Mathlib.Omega.{arith}
-use mathlib.Core.Path.{ap, ◌∙◌}
-use lib.ListN.{length}
+use Rattle.std.proofs.Common.{arith}
 use Rattle.wire.proofs.OutputLaws.{wrote_byte}
-use Rattle.types.specs.declared.Address.{Address}
 use Rattle.handshake.specs.Value.{address_bytes}
 use Rattle.handshake_address_write.specs.AddressLaws.{length-v4, length-v6}
 use Rattle.handshake_address_write.proofs.put_address.Goals as goal
@@ -13,18 +10,14 @@ unfolding address_bytes
 bounds-out-at c = omega (arith, rw c.in-None.is at c.requires)
 
 pub put_v4-requires : goal.put_v4-requires
-put_v4-requires c =
-    let e = ap (λ (x : Address). length (address_bytes x)) c.in-V4.is ∙ length-v4 c.in-V4.ip c.in-V4.port in
-    omega (arith, e, c.requires)
+put_v4-requires c = omega (arith, rw c.in-V4.is at c.requires, length-v4 c.in-V4.ip c.in-V4.port)
 
 pub put_v6-requires : goal.put_v6-requires
-put_v6-requires c =
-    let e = ap (λ (x : Address). length (address_bytes x)) c.in-V6.is ∙ length-v6 c.in-V6.high c.in-V6.low c.in-V6.port in
-    omega (arith, e, c.requires)
+put_v6-requires c = omega (arith, rw c.in-V6.is at c.requires, length-v6 c.in-V6.high c.in-V6.low c.in-V6.port)
 
 pub returns-in-None : goal.returns-in-None
 unfolding address_bytes
-returns-in-None c = rw c.in-None.is (wrote_byte c.args.out.now c.args.at 0).bytes
+returns-in-None c = rw c.in-None.is (wrote_byte c.args.out.now c.args.at 0)
 
 pub returns-in-V4 : goal.returns-in-V4
 unfolding address_bytes

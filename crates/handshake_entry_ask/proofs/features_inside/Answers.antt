@@ -1,22 +1,17 @@
--- `handshake_entry_ask::features_inside` meets its contract. The loop has come to row k; the bodies of the rows before it are inside.
-use mathlib.Core.Path.{sym, ap, ◌∙◌}
-use Rattle.wire.specs.Bytes.{every}
-use Rattle.handshake.specs.Tables.{inside, feature_inside}
-use Rattle.handshake.proofs.RowsLaws.{rows-from, passed_start, passed-next, passed-not, passed-end}
+-- `handshake_entry_ask::features_inside` meets its contract: `all` asks each row of the entry's features.
+use Rattle.std.proofs.Common.{rules, refl, ap, ◌≡◌, ◌+◌, ℕ, true, false, Bool, length, arith, leb}
+use Rattle.std.proofs.lemmas.Iterator.{cases_from_all, YieldsList-from_range}
+use Rattle.handshake.specs.Tables.{feature_row, inside, feature_inside}
+use Rattle.handshake_entry_rows.specs.Row.{feature_or_zeros}
+use Rattle.handshake_entry_rows.specs.ValueLaws.{feature-there}
+use Rattle.handshake_entry_rows.proofs.EveryLaws.{every-range}
 use Rattle.handshake_entry_ask.proofs.features_inside.Goals as goal
 
-pub loop-k-init : goal.loop-k-init
-loop-k-init c = passed_start _ _ _
-
-pub returns-then-not-is_inside : goal.returns-then-not-is_inside
-unfolding feature_inside inside
-returns-then-not-is_inside c =
-    passed-not c.loop-k.invariant c.loop-k-test.true (sym c.is_inside.ensures ∙ c.if-not-is_inside.true)
-    ∙ ap (every _) (rows-from _ _ _)
-
-pub loop-k-preserved : goal.loop-k-preserved
-unfolding feature_inside inside
-loop-k-preserved c = passed-next c.loop-k.invariant c.loop-k-test.true (sym c.is_inside.ensures ∙ c.if-not-is_inside.false)
-
 pub returns : goal.returns
-returns c = passed-end c.loop-k.invariant c.loop-k-test.false ∙ ap (every _) (rows-from _ _ _)
+unfolding feature_inside inside
+returns c =
+    let s = c.args.t.features.now in
+    let b = c.args.t.buffer.now in
+    let t : ℕ → Bool = λ k. leb ((feature_or_zeros s k).at + (feature_or_zeros s k).len) (length b) in
+    every-range (feature_inside b) (feature_row s) t c.args.e.first c.args.e.count (λ k l g. ap (feature_inside b) (feature-there s k (omega arith))) c.all.result
+    (cases_from_all _ _ _ (λ k. t k ≡ true) (λ k. t k ≡ false) c.all.ensures.ran (YieldsList-from_range c.args.e.first _ c.args.e.count refl (omega arith)) (λ x q k. search rules) (λ x q k. search rules))

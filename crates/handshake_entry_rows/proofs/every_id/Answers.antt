@@ -1,21 +1,17 @@
--- `handshake_entry_rows::every_id` meets its contract. The loop has come to row k; the ids before it are below 256.
-use native.Mathlib.Omega.{arith}
-use mathlib.Core.Path.{refl}
-use borrow.Author.Tests.{lt-ltb, le-ltb}
-use Rattle.handshake.specs.Tables.{feature_numbers}
-use Rattle.handshake.proofs.RowsLaws.{passed_start, passed-next, passed-not, passed-end}
+-- `handshake_entry_rows::every_id` meets its contract: `all` asks each row of the table.
+use Rattle.std.proofs.Common.{rules, refl, ap, ◌≡◌, ◌/◌, ℕ, true, false, Bool, length, arith, ltb}
+use Rattle.std.proofs.lemmas.Iterator.{cases_from_all, YieldsList-from_range}
+use Rattle.handshake.specs.Tables.{feature_row, feature_numbers}
+use Rattle.handshake_entry_rows.specs.Row.{feature_or_zeros}
+use Rattle.handshake_entry_rows.specs.ValueLaws.{feature-there}
+use Rattle.handshake_entry_rows.proofs.EveryLaws.{every-range}
 use Rattle.handshake_entry_rows.proofs.every_id.Goals as goal
 
-pub loop-k-init : goal.loop-k-init
-loop-k-init c = (refl, passed_start _ _ _)
-
-pub returns-then-features-k-ge256 : goal.returns-then-features-k-ge256
-unfolding feature_numbers
-returns-then-features-k-ge256 c = passed-not c.loop-k.invariant.1 (omega arith) (le-ltb _ _ c.if-features-k-ge256.true)
-
-pub loop-k-preserved : goal.loop-k-preserved
-unfolding feature_numbers
-loop-k-preserved c = (c.loop-k.invariant.0, passed-next c.loop-k.invariant.1 (omega arith) (lt-ltb _ _ c.if-features-k-ge256.false))
-
 pub returns : goal.returns
-returns c = passed-end c.loop-k.invariant.1 (omega arith)
+unfolding feature_numbers
+returns c =
+    let s = c.args.t.features.now in
+    let n = length s / 3 in
+    let t : ℕ → Bool = λ k. ltb (feature_or_zeros s k).id 256 in
+    every-range feature_numbers (feature_row s) t 0 n (λ k l g. ap feature_numbers (feature-there s k (omega arith))) c.all.result
+    (cases_from_all _ _ _ (λ k. t k ≡ true) (λ k. t k ≡ false) c.all.ensures.ran (YieldsList-from_range 0 _ n refl (omega arith)) (λ x q k. search rules) (λ x q k. search rules))

@@ -1,8 +1,8 @@
 -- `handshake_entry_write::put_feature` meets its contract: the id byte, the VLQ of the body's length and the body were stored.
 use native.Mathlib.Omega.{arith}
-use mathlib.Core.Path.{◌∙◌}
 use lib.ListN.{length-set}
 use Rattle.wire.proofs.OutputLaws.{wrote_then, wrote_byte, wrote_length}
+use Rattle.wire_output.proofs.RoomLaws.{room-ok, wrote-ok}
 use Rattle.handshake.specs.Value.{feature_bytes}
 use Rattle.handshake.specs.Tables.{feature_from_row}
 use Rattle.handshake_entry_ask.specs.LengthLaws.{length-feature}
@@ -10,27 +10,27 @@ use Rattle.handshake_entry_write.specs.NumbersLaws.{id-byte}
 use Rattle.handshake_entry_write.proofs.put_feature.Goals as goal
 
 pub overflow_cast-out : goal.overflow_cast-out
-overflow_cast-out c = omega (arith, id-byte c.args.f c.requires.f_value.0)
+overflow_cast-out c = omega (arith, id-byte c.args.f c.requires.f_value)
 
 pub bounds-out-at : goal.bounds-out-at
 bounds-out-at c =
-    let size = length-feature c.args.buffer.now c.args.f in
+    let size = length-feature c.args.t.buffer.now c.args.f in
     omega (arith, size)
 
-pub put_vlq-a-requires : goal.put_vlq-a-requires
-put_vlq-a-requires c =
-    let size = length-feature c.args.buffer.now c.args.f in
-    rw c.part_of-body.ensures (simp length-set (omega (arith, size)))
+pub unwrap-a-requires : goal.unwrap-a-requires
+unwrap-a-requires c =
+    let size = length-feature c.args.t.buffer.now c.args.f in
+    room-ok _ _ _ _ c.write_vlq.ensures.value (rw c.bytes_at-body.ensures (simp length-set (omega (arith, size))))
 
-pub put_part-requires : goal.put_part-requires
-put_part-requires c =
-    let size = length-feature c.args.buffer.now c.args.f in
-    let w = rw c.part_of-body.ensures at c.put_vlq-a.ensures in
-    rw c.part_of-body.ensures (omega (arith, size, w.end, simp length-set at (wrote_length w)))
-
-pub shape_of-out : goal.shape_of-out
-shape_of-out c = wrote_length c.put_part.ensures ∙ wrote_length c.put_vlq-a.ensures ∙ simp length-set
+pub unwrap-requires : goal.unwrap-requires
+unwrap-requires c =
+    let size = length-feature c.args.t.buffer.now c.args.f in
+    let w = rw c.bytes_at-body.ensures at (wrote-ok _ _ _ _ c.write_vlq.ensures.value c.write_vlq.ensures.out_after c.unwrap-a.ensures) in
+    room-ok _ _ _ _ c.write_part.ensures.value (rw c.bytes_at-body.ensures (omega (arith, size, w.end, simp length-set at (wrote_length w))))
 
 pub returns : goal.returns
 unfolding feature_bytes feature_from_row
-returns c = wrote_then (wrote_byte c.args.out.now c.args.at c.args.f.id) (wrote_then (rw c.part_of-body.ensures at c.put_vlq-a.ensures) (rw c.part_of-body.ensures at c.put_part.ensures))
+returns c =
+    let size = wrote-ok _ _ _ _ c.write_vlq.ensures.value c.write_vlq.ensures.out_after c.unwrap-a.ensures in
+    let body = wrote-ok _ _ _ _ c.write_part.ensures.value c.write_part.ensures.out_after c.unwrap.ensures in
+    wrote_then (wrote_byte c.args.out.now c.args.at c.args.f.id) (wrote_then (rw c.bytes_at-body.ensures at size) (rw c.bytes_at-body.ensures at body))

@@ -20,8 +20,5 @@ overflow_cast-out-3 c = omega (arith, (numbers_of c.args.e c.requires.e_value).p
 pub bounds-out-at-3 : goal.bounds-out-at-3
 bounds-out-at-3 c = simp length-set (omega arith)
 
-pub shape_of-out : goal.shape_of-out
-shape_of-out c = simp length-set
-
 pub returns : goal.returns
 returns c = wrote_three c.args.out.now c.args.at c.args.e.major c.args.e.minor c.args.e.patch

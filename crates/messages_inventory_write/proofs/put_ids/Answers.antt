@@ -4,22 +4,17 @@ use Prim.Native.Nat.{◌+◌, ◌-◌}
 use native.Mathlib.Omega.{arith}
 use mathlib.Core.Path.{◌≡◌}
 use lib.ListN.{length}
-use Rattle.frame_write.specs.FrameWriteLaws.{frame_length-body, closed}
+use Rattle.wire.proofs.OutputLaws.{wrote_length}
+use Rattle.frame_write.specs.FrameWriteLaws.{closed, closed-ok}
 use Rattle.messages.specs.Value.{ids_bytes}
 use Rattle.messages.specs.Writes.{ids_of}
-use Rattle.messages_inventory_write.proofs.InventoryWriteLaws.{length_parts}
 use Rattle.messages_inventory_write.proofs.put_ids.Goals as goal
 
-pub put_body-end-requires : goal.put_body-end-requires
-put_body-end-requires c =
-    let n = length (ids_bytes c.args.modifier_type (ids_of c.args.ids.now c.args.buffer.now)) in
-    record {
-      buffer_value = c.requires.buffer_value;
-      buffer_in_bounds = omega (arith, c.requires.buffer_in_bounds, frame_length-body n (omega (arith, length_parts c.args.modifier_type c.args.ids.now c.args.buffer.now)));
-    }
-
-pub overflow_sub-end : goal.overflow_sub-end
-overflow_sub-end c = omega (arith, c.put_body-end.ensures.end)
+pub unwrap-requires : goal.unwrap-requires
+unwrap-requires c =
+    let body = ids_bytes c.args.modifier_type (ids_of c.args.ids.now c.args.buffer.now) in
+    let z : c.put_body-end.result - (c.args.at + 13) ≡ length body = omega (arith, c.put_body-end.ensures.end) in
+    closed-ok _ _ _ _ c.close_frame.ensures.value (omega (arith, z, c.requires.buffer_len_bound)) (rw z (omega (arith, c.requires.buffer_in_bounds, wrote_length c.put_body-end.ensures)))
 
 pub returns : goal.returns
 returns c =

@@ -1,80 +1,47 @@
 -- `messages_read::from_frame` meets its contract: the definition at the code of the arm, and what is given of the body's reading.
-use mathlib.Core.Path.{sym, ap, ◌∙◌}
-use borrow.Author.Tests.{ne_eqb}
-use Rattle.wire.specs.Reader.{map_answer}
-use Rattle.wire.proofs.ReaderLaws.{map-got, map-refused, map-value}
-use Rattle.messages.specs.Message.{modifier_request, inv, whole_body, message}
-use Rattle.messages_inventory_read.specs.Answers.{inventory_in, inventory_answer}
-use Rattle.messages_peers_read.specs.Answers.{peers_answer}
-use Rattle.messages_read.specs.AnswersLaws.{peers-message}
-use Rattle.messages_read.proofs.AnswerLaws.{request-got, inv-got, ids-refused, response-got, response-refused}
+use mathlib.Core.Path.{sym}
+use Rattle.std.proofs.lemmas.Result.{err_from_is_err_and}
+use Rattle.wire.proofs.ReaderLaws.{map-value, map-refusal}
+use Rattle.messages.specs.Message.{message}
+use Rattle.messages_read.proofs.AnswerLaws.{peers_message, request_message, inv_message, response_message}
 use Rattle.messages_read.proofs.from_frame.Goals as goal
 
-pub returns-in-1 : goal.returns-in-1
+pub returns-in_ok-peers-in-2 : goal.returns-in_ok-peers-in-2
 unfolding message
-returns-in-1 c = rw (c.in-1.is, map-value)
+returns-in_ok-peers-in-2 c = rw (c.in-2.is, peers_message c.args.network c.args.body.now c.args.cap, sym c.in_ok-peers-in-2.ensures, map-value)
 
-pub returns-in-Value : goal.returns-in-Value
-unfolding message map_answer
-returns-in-Value c =
-    let e = sym (ap peers_answer c.in-Value.is) ∙ c.parse_peers_body.ensures in
-    rw c.in-2.is (peers-message c.args.network c.args.body.now c.args.cap e)
-
-pub returns-in-Refused : goal.returns-in-Refused
-unfolding message map_answer
-returns-in-Refused c =
-    let e = sym (ap peers_answer c.in-Refused.is) ∙ c.parse_peers_body.ensures in
-    rw c.in-2.is (peers-message c.args.network c.args.body.now c.args.cap e)
-
-pub returns-in-Value-parse_inv_body : goal.returns-in-Value-parse_inv_body
+pub returns-in_err-peers-in-2 : goal.returns-in_err-peers-in-2
 unfolding message
-returns-in-Value-parse_inv_body c =
-    let e = map-got (inventory_in c.args.body.now) (sym c.parse_inv_body.ensures ∙ ap inventory_answer c.in-Value-parse_inv_body.is) in
-    rw c.in-55.is (inv-got c.args.network c.args.body.now e.1 e.2)
+returns-in_err-peers-in-2 c =
+    let p = err_from_is_err_and c.from_residual.result c.from_residual.ensures.1 in
+    rw (p.1, p.2, c.in-2.is, peers_message c.args.network c.args.body.now c.args.cap, sym c.in_err-peers-in-2.ensures, map-refusal)
 
-pub returns-in-Refused-parse_inv_body : goal.returns-in-Refused-parse_inv_body
+pub returns-in_ok-ids-in-55 : goal.returns-in_ok-ids-in-55
 unfolding message
-returns-in-Refused-parse_inv_body c =
-    let e = map-refused (inventory_in c.args.body.now) (sym c.parse_inv_body.ensures ∙ ap inventory_answer c.in-Refused-parse_inv_body.is) in
-    rw c.in-55.is (ids-refused c.args.network c.args.body.now inv e)
+returns-in_ok-ids-in-55 c = rw (c.in-55.is, inv_message c.args.network c.args.body.now, sym c.in_ok-ids-in-55.ensures, map-value)
 
-pub returns-in-Value-parse_inv_body-2 : goal.returns-in-Value-parse_inv_body-2
+pub returns-in_err-ids-in-55 : goal.returns-in_err-ids-in-55
 unfolding message
-returns-in-Value-parse_inv_body-2 c =
-    let e = map-got (inventory_in c.args.body.now) (sym c.parse_inv_body-in-22.ensures ∙ ap inventory_answer c.in-Value-parse_inv_body-2.is) in
-    rw c.in-22.is (request-got c.args.network c.args.body.now e.1 e.2)
+returns-in_err-ids-in-55 c =
+    let p = err_from_is_err_and c.from_residual-in_err-ids-in-55.result c.from_residual-in_err-ids-in-55.ensures.1 in
+    rw (p.1, p.2, c.in-55.is, inv_message c.args.network c.args.body.now, sym c.in_err-ids-in-55.ensures, map-refusal)
 
-pub returns-in-Refused-parse_inv_body-2 : goal.returns-in-Refused-parse_inv_body-2
+pub returns-in_ok-ids-in-22 : goal.returns-in_ok-ids-in-22
 unfolding message
-returns-in-Refused-parse_inv_body-2 c =
-    let e = map-refused (inventory_in c.args.body.now) (sym c.parse_inv_body-in-22.ensures ∙ ap inventory_answer c.in-Refused-parse_inv_body-2.is) in
-    rw c.in-22.is (ids-refused c.args.network c.args.body.now modifier_request e)
+returns-in_ok-ids-in-22 c = rw (c.in-22.is, request_message c.args.network c.args.body.now, sym c.in_ok-ids-in-22.ensures, map-value)
 
-pub returns-in-Value-parse_modifier_response_body : goal.returns-in-Value-parse_modifier_response_body
+pub returns-in_err-ids-in-22 : goal.returns-in_err-ids-in-22
 unfolding message
-returns-in-Value-parse_modifier_response_body c =
-    let e = map-got (inventory_in c.args.body.now) (sym c.parse_modifier_response_body.ensures ∙ ap inventory_answer c.in-Value-parse_modifier_response_body.is) in
-    rw c.in-33.is (response-got c.args.network c.args.body.now e.1 e.2)
+returns-in_err-ids-in-22 c =
+    let p = err_from_is_err_and c.from_residual-in_err-ids-in-22.result c.from_residual-in_err-ids-in-22.ensures.1 in
+    rw (p.1, p.2, c.in-22.is, request_message c.args.network c.args.body.now, sym c.in_err-ids-in-22.ensures, map-refusal)
 
-pub returns-in-Refused-parse_modifier_response_body : goal.returns-in-Refused-parse_modifier_response_body
+pub returns-in_ok-payloads-in-33 : goal.returns-in_ok-payloads-in-33
 unfolding message
-returns-in-Refused-parse_modifier_response_body c =
-    let e = map-refused (inventory_in c.args.body.now) (sym c.parse_modifier_response_body.ensures ∙ ap inventory_answer c.in-Refused-parse_modifier_response_body.is) in
-    rw c.in-33.is (response-refused c.args.network c.args.body.now e)
+returns-in_ok-payloads-in-33 c = rw (c.in-33.is, response_message c.args.network c.args.body.now, sym c.in_ok-payloads-in-33.ensures, map-value)
 
-pub returns-in-65 : goal.returns-in-65
-unfolding message whole_body
-returns-in-65 c = rw (c.in-65.is, map-value)
-
-pub returns-in_default : goal.returns-in_default
-unfolding message whole_body
-returns-in_default c =
-    rw (
-      ne_eqb c.args.code 1 c.in_default.in_default-own.rest.0.0.0.0.0.1,
-      ne_eqb c.args.code 2 c.in_default.in_default-own.rest.0.0.0.0.1,
-      ne_eqb c.args.code 22 c.in_default.in_default-own.rest.0.0.1,
-      ne_eqb c.args.code 33 c.in_default.in_default-own.rest.0.1,
-      ne_eqb c.args.code 55 c.in_default.in_default-own.rest.0.0.0.1,
-      ne_eqb c.args.code 65 c.in_default.in_default-own.rest.1,
-      map-value,
-    )
+pub returns-in_err-payloads-in-33 : goal.returns-in_err-payloads-in-33
+unfolding message
+returns-in_err-payloads-in-33 c =
+    let p = err_from_is_err_and c.from_residual-in_err-payloads-in-33.result c.from_residual-in_err-payloads-in-33.ensures.1 in
+    rw (p.1, p.2, c.in-33.is, response_message c.args.network c.args.body.now, sym c.in_err-payloads-in-33.ensures, map-refusal)

@@ -1,5 +1,5 @@
 -- `messages_response_write::payloads_inside` meets its contract: the rows before k are inside the buffer.
-use Prim.Native.Nat.{◌+◌, ◌-◌, ◌/◌}
+use Prim.Native.Nat.{◌+◌, ◌/◌}
 use mathlib.Core.Bool.{◌&&◌}
 use lib.Dec.{leb}
 use lib.ListN.{length}
@@ -9,6 +9,3 @@ use Rattle.messages_response_write.proofs.payloads_inside.Given as goal
 
 abbrev pub invariant-loop-k : goal.invariant-loop-k
 invariant-loop-k l = Passed (λ row. leb (row.id + 32) l.len && leb (row.at + row.len) l.len) (payload_row l.payloads) (length l.payloads / 3) l.k
-
-abbrev pub decreases-loop-k : goal.decreases-loop-k
-decreases-loop-k l = length l.payloads / 3 - l.k

@@ -1,5 +1,5 @@
 -- `messages_response_write::payloads_within` meets its contract: the lengths of the rows before k are within the limit.
-use Prim.Native.Nat.{◌-◌, ◌/◌}
+use Prim.Native.Nat.{◌/◌}
 use lib.ListN.{length}
 use Rattle.handshake.proofs.RowsLaws.{Passed}
 use Rattle.messages.specs.Writes.{payload_row}
@@ -8,6 +8,3 @@ use Rattle.messages_response_write.proofs.payloads_within.Given as goal
 
 abbrev pub invariant-loop-k : goal.invariant-loop-k
 invariant-loop-k l = Passed row_within (payload_row l.payloads) (length l.payloads / 3) l.k
-
-abbrev pub decreases-loop-k : goal.decreases-loop-k
-decreases-loop-k l = length l.payloads / 3 - l.k

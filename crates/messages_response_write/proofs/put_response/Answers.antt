@@ -4,7 +4,8 @@ use Prim.Native.Nat.{◌+◌, ◌-◌}
 use native.Mathlib.Omega.{arith}
 use mathlib.Core.Path.{◌≡◌}
 use lib.ListN.{length}
-use Rattle.frame_write.specs.FrameWriteLaws.{frame_length-body, closed}
+use Rattle.wire.proofs.OutputLaws.{wrote_length}
+use Rattle.frame_write.specs.FrameWriteLaws.{frame_length-body, closed, closed-ok}
 use Rattle.messages_response_write.specs.Asked.{response_bytes}
 use Rattle.messages_response_write.proofs.ResponseLaws.{length_parts}
 use Rattle.messages_response_write.proofs.put_response.Goals as goal
@@ -19,6 +20,12 @@ put_body-end-requires c =
 
 pub overflow_sub-end : goal.overflow_sub-end
 overflow_sub-end c = omega (arith, c.put_body-end.ensures.end)
+
+pub unwrap-requires : goal.unwrap-requires
+unwrap-requires c =
+    let body = response_bytes c.args.modifier_type c.args.payloads.now c.args.buffer.now in
+    let z : c.put_body-end.result - (c.args.at + 13) ≡ length body = omega (arith, c.put_body-end.ensures.end) in
+    closed-ok _ _ _ _ c.close_frame.ensures.value (omega (arith, z, c.requires.buffer_len_bound)) (rw z (omega (arith, c.requires.buffer_in_bounds, wrote_length c.put_body-end.ensures)))
 
 pub returns : goal.returns
 returns c =

@@ -1,5 +1,5 @@
 -- `messages_response_write::rows_len` meets its contract: the lengths of the rows before k were added.
-use Prim.Native.Nat.{◌-◌, ◌/◌}
+use Prim.Native.Nat.{◌/◌}
 use lib.ListN.{length}
 use Rattle.messages.specs.Writes.{payload_row}
 use Rattle.messages_response_write.proofs.LengthLoop.{Adding}
@@ -7,6 +7,3 @@ use Rattle.messages_response_write.proofs.rows_len.Given as goal
 
 abbrev pub invariant-loop-k : goal.invariant-loop-k
 invariant-loop-k l = Adding (payload_row l.payloads) (length l.payloads / 3) l.size l.k
-
-abbrev pub decreases-loop-k : goal.decreases-loop-k
-decreases-loop-k l = length l.payloads / 3 - l.k

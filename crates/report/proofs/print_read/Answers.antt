@@ -1,8 +1,6 @@
 -- `report::print_read` meets its contract: `unread` and its line end are seven bytes, and otherwise the bytes are those of what was read.
-use Rattle.std.proofs.Common.{◌≡◌, ℕ, ◌%◌, ◌^◌, ◌<◌, ◌≤◌, min, List, length, take, sym, ap, ◌∙◌, ⊎_elim, arith, length-take-le, take_all}
+use Rattle.std.proofs.Common.{◌≡◌, ℕ, ◌%◌, ◌^◌, ◌<◌, ◌≤◌, min, List, length, take, sym, ap, ◌∙◌, ⊎_elim, arith, length-take-le, take_all, Result, Ok, Err}
 use Rattle.wire.specs.Numbers.{lt-or_ge}
-use Rattle.report_input_read.specs.declared.Input.{Input}
-use Rattle.report_input_read.specs.declared.Input.TheVariants.{Bytes, Failed}
 use Rattle.report.specs.Report.{session_text, input_text}
 use Rattle.report.proofs.print_read.Goals as goal
 
@@ -13,20 +11,20 @@ take_min n k l h =
     (λ (g : n ≤ length l). let e : k ≡ n = omega arith in ap (λ (j : ℕ). take j l) e)
     (lt-or_ge (length l) n)
 
-read-bytes : (read : Input) (n k r : ℕ) (buf : List ℕ) → read ≡ Bytes n → k ≡ min n (length buf)
+read-bytes : {E : Type 0} (read : Result ℕ E) (n k r : ℕ) (buf : List ℕ) → read ≡ Ok n → k ≡ min n (length buf)
     → r ≡ length (session_text (take k buf)) % 2 ^ 64 → r ≡ length (input_text read buf) % 2 ^ 64
 unfolding input_text
 read-bytes read n k r buf e h q = rw e (q ∙ ap (λ (s : List ℕ). length (session_text s) % 2 ^ 64) (take_min n k buf h))
 
-not-read : (read : Input) (buf : List ℕ) → read ≡ Failed → 7 ≡ length (input_text read buf) % 2 ^ 64
+not-read : {E : Type 0} (read : Result ℕ E) (e : E) (buf : List ℕ) → read ≡ Err e → 7 ≡ length (input_text read buf) % 2 ^ 64
 unfolding input_text
-not-read read buf e = rw e
+not-read read e buf q = rw q
 
 pub slice_bounds-print_session-end : goal.slice_bounds-print_session-end
-slice_bounds-print_session-end c = sym (length-take-le _ _ (omega (arith, c.least.ensures)))
+slice_bounds-print_session-end c = sym (length-take-le _ _ (omega (arith, c.min.ensures)))
 
-pub returns-in-Bytes : goal.returns-in-Bytes
-returns-in-Bytes c = read-bytes _ _ _ _ _ c.in-Bytes.is c.least.ensures c.print_session.ensures
+pub returns-in-Ok : goal.returns-in-Ok
+returns-in-Ok c = read-bytes _ _ _ _ _ c.in-Ok.is c.min.ensures c.print_session.ensures
 
-pub returns-in-Failed : goal.returns-in-Failed
-returns-in-Failed c = not-read _ _ c.in-Failed.is
+pub returns-in-Err : goal.returns-in-Err
+returns-in-Err c = not-read _ _ _ c.in-Err.is

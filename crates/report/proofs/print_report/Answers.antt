@@ -1,17 +1,17 @@
 -- `report::print_report` meets its contract: each turn prints a block, and the rest of the report is to come.
-use Rattle.std.proofs.Common.{ℕ}
+use Rattle.std.proofs.Common.{ℕ, refl}
 use lib.ListN.{length-replicate}
 use Rattle.report.proofs.BlockLaws.{print_start, print_turn, print_end}
 use Rattle.report.proofs.print_report.Goals as goal
 
-pub loop-more-init : goal.loop-more-init
-loop-more-init c = print_start c.args.network c.args.cap c.args.s.now
+pub loop-at-init : goal.loop-at-init
+loop-at-init c = print_start c.args.network c.args.cap c.args.s.now
 
-pub loop-more-smaller : goal.loop-more-smaller
-loop-more-smaller c = (print_turn c.args.network c.args.cap c.args.s.now c.put_lines-next.result _ (length-replicate {A = ℕ} 65536 0) c.put_lines-next.ensures.value c.loop-more-test.true c.loop-more.invariant c.wrapping_add_u64-printed.ensures.value).1
+pub loop-at-smaller : goal.loop-at-smaller
+loop-at-smaller c = (print_turn c.args.network c.args.cap c.args.s.now c.put_lines-lines.result _ (length-replicate {A = ℕ} 65536 0) c.put_lines-lines.ensures.value c.in-Some.is c.loop-at.invariant refl).1
 
-pub loop-more-preserved : goal.loop-more-preserved
-loop-more-preserved c = (print_turn c.args.network c.args.cap c.args.s.now c.put_lines-next.result _ (length-replicate {A = ℕ} 65536 0) c.put_lines-next.ensures.value c.loop-more-test.true c.loop-more.invariant c.wrapping_add_u64-printed.ensures.value).0
+pub loop-at-preserved : goal.loop-at-preserved
+loop-at-preserved c = (print_turn c.args.network c.args.cap c.args.s.now c.put_lines-lines.result _ (length-replicate {A = ℕ} 65536 0) c.put_lines-lines.ensures.value c.in-Some.is c.loop-at.invariant refl).0
 
 pub returns : goal.returns
-returns c = print_end c.args.network c.args.cap c.args.s.now c.loop-more-test.false c.loop-more.invariant
+returns c = print_end c.args.network c.args.cap c.args.s.now c.in_default.not-Some c.loop-at.invariant

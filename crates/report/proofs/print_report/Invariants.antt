@@ -3,8 +3,8 @@ use Rattle.report.proofs.ReportLaws.{lines_from}
 use Rattle.report.proofs.BlockLaws.{Printed}
 use Rattle.report.proofs.print_report.Given as goal
 
-abbrev pub invariant-loop-more : goal.invariant-loop-more
-invariant-loop-more l = Printed l.network l.cap l.s l.at l.more l.printed
+abbrev pub invariant-loop-at : goal.invariant-loop-at
+invariant-loop-at l = Printed l.network l.cap l.s l.at l.printed
 
-abbrev pub decreases-loop-more : goal.decreases-loop-more
-decreases-loop-more l = lines_from l.network l.cap l.s l.at l.more
+abbrev pub decreases-loop-at : goal.decreases-loop-at
+decreases-loop-at l = lines_from l.network l.cap l.s l.at

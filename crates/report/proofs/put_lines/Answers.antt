@@ -1,39 +1,30 @@
 -- `report::put_lines` meets its contract: each turn stores the line of a step, and what is to come is the block in the room that is left.
-use Rattle.std.proofs.Common.{sym, refl, arith, length-take-le}
-use Rattle.report.proofs.BlockLaws.{line-room, laying_start, laying_turn, laying_last, laying_full}
+use Rattle.std.proofs.Common.{refl, arith}
+use Rattle.std.proofs.lemmas.Grind.{common_steps}
+use Rattle.wire_output.proofs.RoomLaws.{room-ok, wrote-ok}
+use Rattle.report.proofs.BlockLaws.{laying_start, laying_turn, laying_last, laying_full}
 use Rattle.report.proofs.put_lines.Goals as goal
 
-pub loop-more-init : goal.loop-more-init
-loop-more-init c = laying_start c.args.network c.args.cap c.args.s.now c.args.out.now c.args.at.0
+pub loop-at-init : goal.loop-at-init
+loop-at-init c = laying_start c.args.network c.args.cap c.args.s.now c.args.out.now c.args.at.0
 
-pub overflow_sub-out : goal.overflow_sub-out
-overflow_sub-out c = omega (arith, c.loop-more.invariant.fits, c.loop-more.invariant.writing.size)
+pub unwrap-len-requires : goal.unwrap-len-requires
+unwrap-len-requires c = room-ok _ _ _ _ c.write_part.ensures.value (grind (arith, common_steps))
 
-pub slice_bounds-line-end : goal.slice_bounds-line-end
-slice_bounds-line-end c = line-room _ _ refl c.next_line-next.ensures.line_after c.next_line-next.ensures.len_bound
+pub loop-at-smaller : goal.loop-at-smaller
+loop-at-smaller c =
+    let w = wrote-ok _ _ _ _ c.write_part.ensures.value c.write_part.ensures.out_after c.unwrap-len.ensures in
+    (laying_turn c.args.network c.args.cap c.args.s.now c.args.out.now c.args.at.0 c.next_line-next.result _ _ refl c.next_line-next.ensures.value c.next_line-next.ensures.line_after c.next_line-next.ensures.len_bound c.in-Some.is (omega (arith, c.if-out-len-lt192.false)) c.loop-at.invariant w).1
 
-pub slice_bounds-write_part-end : goal.slice_bounds-write_part-end
-slice_bounds-write_part-end c = sym (length-take-le _ _ (line-room _ _ refl c.next_line-next.ensures.line_after c.next_line-next.ensures.len_bound))
+pub loop-at-preserved : goal.loop-at-preserved
+loop-at-preserved c =
+    let w = wrote-ok _ _ _ _ c.write_part.ensures.value c.write_part.ensures.out_after c.unwrap-len.ensures in
+    (laying_turn c.args.network c.args.cap c.args.s.now c.args.out.now c.args.at.0 c.next_line-next.result _ _ refl c.next_line-next.ensures.value c.next_line-next.ensures.line_after c.next_line-next.ensures.len_bound c.in-Some.is (omega (arith, c.if-out-len-lt192.false)) c.loop-at.invariant w).0
 
-pub overflow_add-len : goal.overflow_add-len
-overflow_add-len c = omega (arith, c.next_line-next.ensures.len_bound, c.if-out-len-ge192.true, c.loop-more.invariant.fits, c.loop-more.invariant.writing.size)
+pub returns-then-out-len-lt192 : goal.returns-then-out-len-lt192
+returns-then-out-len-lt192 c =
+    let e = laying_full c.args.network c.args.cap c.args.s.now c.args.out.now c.args.at.0 c.in-Some.is c.if-out-len-lt192.true c.loop-at.invariant in record { value = rw (← c.in-Some.is) e.0; out_after = e.1.0; prefix_len = e.1.1 }
 
-pub loop-more-smaller : goal.loop-more-smaller
-loop-more-smaller c = (laying_turn c.args.network c.args.cap c.args.s.now c.args.out.now c.args.at.0 c.next_line-next.result _ _ refl c.next_line-next.ensures.value c.next_line-next.ensures.line_after c.next_line-next.ensures.len_bound c.loop-more-test.true c.if-out-len-ge192.true c.loop-more.invariant c.write_part.ensures.value c.write_part.ensures.out_after).1
-
-pub loop-more-preserved : goal.loop-more-preserved
-loop-more-preserved c = (laying_turn c.args.network c.args.cap c.args.s.now c.args.out.now c.args.at.0 c.next_line-next.result _ _ refl c.next_line-next.ensures.value c.next_line-next.ensures.line_after c.next_line-next.ensures.len_bound c.loop-more-test.true c.if-out-len-ge192.true c.loop-more.invariant c.write_part.ensures.value c.write_part.ensures.out_after).0
-
-pub shape_of-out-else-out-len-ge192 : goal.shape_of-out-else-out-len-ge192
-shape_of-out-else-out-len-ge192 c = c.loop-more.invariant.writing.size
-
-pub returns-else-out-len-ge192 : goal.returns-else-out-len-ge192
-returns-else-out-len-ge192 c =
-    let e = laying_full c.args.network c.args.cap c.args.s.now c.args.out.now c.args.at.0 c.loop-more-test.true c.if-out-len-ge192.false c.loop-more.invariant in record { value = e.0; out_after = e.1.0; prefix_len = e.1.1 }
-
-pub shape_of-out-after-loop-more : goal.shape_of-out-after-loop-more
-shape_of-out-after-loop-more c = c.loop-more.invariant.writing.size
-
-pub returns-after-loop-more : goal.returns-after-loop-more
-returns-after-loop-more c =
-    let e = laying_last c.args.network c.args.cap c.args.s.now c.args.out.now c.args.at.0 c.loop-more-test.false c.loop-more.invariant in record { value = e.0; out_after = e.1.0; prefix_len = e.1.1 }
+pub returns-in_default : goal.returns-in_default
+returns-in_default c =
+    let e = laying_last c.args.network c.args.cap c.args.s.now c.args.out.now c.args.at.0 c.in_default.not-Some c.loop-at.invariant in record { value = e.0; out_after = e.1.0; prefix_len = e.1.1 }

@@ -3,8 +3,8 @@ use Rattle.report.proofs.ReportLaws.{lines_from}
 use Rattle.report.proofs.BlockLaws.{Laying}
 use Rattle.report.proofs.put_lines.Given as goal
 
-abbrev pub invariant-loop-more : goal.invariant-loop-more
-invariant-loop-more l = Laying l.network l.cap l.s l.initial.out l.initial.place l.out l.len l.place l.more
+abbrev pub invariant-loop-at : goal.invariant-loop-at
+invariant-loop-at l = Laying l.network l.cap l.s l.initial.out l.fn.at.0 l.out l.len l.at
 
-abbrev pub decreases-loop-more : goal.decreases-loop-more
-decreases-loop-more l = lines_from l.network l.cap l.s l.place l.more
+abbrev pub decreases-loop-at : goal.decreases-loop-at
+decreases-loop-at l = lines_from l.network l.cap l.s l.at

@@ -1,23 +1,24 @@
--- `wire::matches_at` meets its contract. The loop's invariant: the bytes before i are the same.
--- The measure is what is left of the four. Assumes nothing.
-use native.Mathlib.Omega.{arith}
-use Rattle.wire.proofs.SameLoop.{same-short, same_start, same_again, same-other, same_end}
+-- `wire::matches_at` meets its contract: past the end no byte stands.
+use Rattle.std.proofs.Common.{◌≡◌, ◌≤◌, ◌-◌, ℕ, Bool, List, length, take, drop, ◌∙◌, arith, take_all, length-drop, drop_of_length-le}
+use Rattle.std.proofs.lemmas.Bool.{lt-leb}
+use Rattle.std.specs.List.{starts_with}
+use Rattle.std.specs.Prelude.{eqb}
+use Rattle.wire.specs.Bytes.{same_bytes}
+use Rattle.wire.proofs.BytesLaws.{same_pointwise, same_none}
 use Rattle.wire.proofs.matches_at.Goals as goal
 
-pub returns-then-s-at : goal.returns-then-s-at
-returns-then-s-at c = same-short c.args.s.now c.args.at 4 c.args.four (omega arith) (omega arith) (omega arith)
+starts : (s k : List ℕ) (at : ℕ) (r : Bool) → at ≤ length s → length k ≡ 4
+    → r ≡ starts_with eqb (take (length s - at) (drop at s)) k → r ≡ same_bytes (take 4 (drop at s)) k
+starts s k at r h l e =
+    let f : length (drop at s) ≤ length s - at = simp length-drop (omega arith) in
+    e ∙ rw (take_all (length s - at) (drop at s) f, l) (same_pointwise _ _)
 
-pub returns-then-s-at-lt4 : goal.returns-then-s-at-lt4
-returns-then-s-at-lt4 c = same-short c.args.s.now c.args.at 4 c.args.four (omega arith) (omega arith) (omega arith)
+pub returns-then-at-s : goal.returns-then-at-s
+returns-then-at-s c =
+    let h : c.args.at ≤ length c.args.s.now = omega arith in
+    starts _ _ _ _ h (omega arith) c.starts_with.ensures.value
 
-pub loop-i-init : goal.loop-i-init
-loop-i-init c = same_start _ _ _ _ (omega arith) (omega arith)
-
-pub returns-then-s-at-2 : goal.returns-then-s-at-2
-returns-then-s-at-2 c = same-other c.loop-i.invariant (omega arith) c.if-s-at-2.true
-
-pub loop-i-preserved : goal.loop-i-preserved
-loop-i-preserved c = same_again c.loop-i.invariant (omega arith) c.if-s-at-2.false
-
-pub returns : goal.returns
-returns c = same_end c.loop-i.invariant (omega arith)
+pub returns-else-at-s : goal.returns-else-at-s
+returns-else-at-s c =
+    let h : length c.args.s.now ≤ c.args.at = omega arith in
+    rw (drop_of_length-le c.args.s.now h, same_none c.args.four (omega arith)) (lt-leb _ _ (omega arith))

@@ -1,25 +1,17 @@
 -- `wire_numbers::big_endian` meets its contract. The loop's invariant and what follows from it stand in `NumberLaws`.
-use native.Mathlib.Omega.{arith}
-use Rattle.wire_numbers.proofs.NumberLaws.{number-start, number_fits, number_again, number-end, number-all}
+use Rattle.std.proofs.Common.{arith}
+use Rattle.wire_numbers.proofs.NumberLaws.{number-start, number-again, number-end}
 use Rattle.wire_numbers.proofs.big_endian.Goals as goal
 
-pub loop-i-init : goal.loop-i-init
-loop-i-init c = number-start _ _ c.requires
+pub loop-byte-init : goal.loop-byte-init
+loop-byte-init g c =
+    λ h. rw (c.into_iter-byte-iterator.ensures.into_iter_gives, c.take-byte-items.ensures.source, c.take-byte-items.ensures.count, c.iter.ensures.rest) (number-start g.row.N c.args.s.now h)
 
-pub overflow_mul-x : goal.overflow_mul-x
-overflow_mul-x c = omega (arith, number_fits c.loop-i.invariant 0 (omega arith) (omega arith))
+pub loop-byte-preserved : goal.loop-byte-preserved
+loop-byte-preserved g c = λ h. number-again (c.loop-byte.invariant h) c.from.result (omega arith) (rw c.from.ensures c.in-Some.ensures.steps.0) c.in-Some.ensures.steps.1
 
-pub bounds-s-i : goal.bounds-s-i
-bounds-s-i c = c.if-i-s.true
+pub returns-clause-number : goal.returns-clause-number
+returns-clause-number g c = λ h. (number-end (c.loop-byte.invariant h) (λ p. (c.in-None.ensures.steps p).0)).0
 
-pub overflow_add-x : goal.overflow_add-x
-overflow_add-x c = omega (arith, number_fits c.loop-i.invariant c.wide.result (omega arith) c.wide.ensures.1)
-
-pub loop-i-preserved : goal.loop-i-preserved
-loop-i-preserved c = number_again c.loop-i.invariant c.wide.result c.wide.ensures.0 c.wide.ensures.1 (omega arith) c.if-i-s.true
-
-pub returns-else-i-s : goal.returns-else-i-s
-returns-else-i-s c = number-all c.loop-i.invariant c.if-i-s.false
-
-pub returns-after-loop-i : goal.returns-after-loop-i
-returns-after-loop-i c = number-end c.loop-i.invariant (omega arith)
+pub returns-clause-fits : goal.returns-clause-fits
+returns-clause-fits g c = λ h. (number-end (c.loop-byte.invariant h) (λ p. (c.in-None.ensures.steps p).0)).1

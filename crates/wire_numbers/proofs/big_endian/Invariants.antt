@@ -1,10 +1,7 @@
 -- `wire_numbers::big_endian` meets its contract. The loop's invariant and what follows from it stand in `NumberLaws`.
-use Prim.Native.Nat.{◌-◌}
+use Rattle.std.proofs.Common.{◌≤◌, take}
 use Rattle.wire_numbers.proofs.NumberLaws.{NumberSoFar}
 use Rattle.wire_numbers.proofs.big_endian.Given as goal
 
-abbrev pub invariant-loop-i : goal.invariant-loop-i
-invariant-loop-i l = NumberSoFar l.s l.n l.x l.i
-
-abbrev pub decreases-loop-i : goal.decreases-loop-i
-decreases-loop-i l = l.n - l.i
+abbrev pub invariant-loop-byte : goal.invariant-loop-byte
+invariant-loop-byte g l = g.row.N ≤ 8 → NumberSoFar g.row.N (take g.row.N l.s) l.n l.byte-iterator.n l.byte-iterator.iter.rest.now

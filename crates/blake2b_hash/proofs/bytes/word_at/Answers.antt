@@ -1,7 +1,7 @@
--- Eight bytes as a word, from four and four. Assumes nothing.
-use Rattle.std.proofs.Common.{arith}
-use Rattle.blake2b_hash.proofs.Blocks.{word-twice}
+-- Eight bytes as a word. Assumes nothing.
+use Rattle.std.proofs.Common.{◌∙◌}
+use Rattle.blake2b_hash.proofs.Blocks.{word-eight}
 use Rattle.blake2b_hash.proofs.bytes.word_at.Goals as goal
 
 pub returns : goal.returns
-returns c = word-twice 4 c.args.s.now c.args.i _ _ (omega arith) c.four.ensures.0 c.four-2.ensures.0
+returns c = c.from_le_bytes.ensures ∙ word-eight _ _ c.requires

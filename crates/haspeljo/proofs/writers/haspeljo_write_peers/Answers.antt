@@ -4,5 +4,5 @@ use Rattle.haspeljo.proofs.writers.haspeljo_write_peers.Goals as goal
 
 pub returns : goal.returns
 returns c =
-    let w = rw c.network_of.ensures at c.write_peers-w.ensures in
+    let w = rw (c.network_of.ensures, c.new-t.ensures) at c.write_peers-w.ensures in
     writer_leaves _ _ (w.value, w.out_after) (c.written_result.ensures.value, c.written_result.ensures.r_after)

@@ -1,18 +1,16 @@
 -- `vlq::Cursor::read_short_string` meets its contract: the definition, rewritten with what its two readers answered.
-use mathlib.Core.Path.{sym, ap, ◌∙◌}
+use mathlib.Core.Path.{sym}
+use Rattle.std.proofs.lemmas.Result.{err_from_is_err_and}
 use Rattle.wire.specs.Reader.{map_answer}
 use Rattle.vlq.specs.ShortString.{short_string}
-use Rattle.vlq.specs.Answers.{byte_answer}
 use Rattle.vlq.proofs.Cursor.read_short_string.Goals as goal
 
-pub returns-in-Value : goal.returns-in-Value
+pub returns-in_err-n : goal.returns-in_err-n
 unfolding short_string map_answer
-returns-in-Value c =
-    let e1 = sym c.read_byte.ensures ∙ ap byte_answer c.in-Value.is in
-    rw (e1) c.read_string.ensures
+returns-in_err-n c =
+    let p = err_from_is_err_and c.from_residual.result c.from_residual.ensures.1 in
+    rw (p.1, p.2, sym c.in_err-n.ensures)
 
-pub returns-in-Refused : goal.returns-in-Refused
+pub returns : goal.returns
 unfolding short_string map_answer
-returns-in-Refused c =
-    let e1 = sym c.read_byte.ensures ∙ ap byte_answer c.in-Refused.is in
-    rw (e1)
+returns c = rw (sym c.in_ok-n.ensures) c.read_string.ensures

@@ -1,10 +1,6 @@
 -- `vlq::Cursor::read_vlq` meets its contract. The loop's invariant and what follows from it stand in `VlqLoop`.
-use Prim.Native.Nat.{◌-◌}
 use Rattle.vlq.proofs.VlqLoop.{VlqSoFar}
 use Rattle.vlq.proofs.Cursor.read_vlq.Given as goal
 
 abbrev pub invariant-loop-i : goal.invariant-loop-i
-invariant-loop-i l = VlqSoFar l.s l.initial.at l.at l.sum l.weight l.i
-
-abbrev pub decreases-loop-i : goal.decreases-loop-i
-decreases-loop-i l = 9 - l.i
+invariant-loop-i l = VlqSoFar l.s l.at l.sum l.weight l.i

@@ -1,2 +1,0 @@
-pub mod OtherLaws
-pub mod LastLaws

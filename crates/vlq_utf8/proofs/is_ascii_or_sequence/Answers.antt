@@ -1,0 +1,7 @@
+-- `vlq_utf8::is_ascii_or_sequence` meets its contract: bytes up to 0x7F stand alone.
+use Rattle.std.proofs.Common.{sym, ◌∙◌}
+use Rattle.vlq_utf8.proofs.AsciiLaws.{ascii-utf8}
+use Rattle.vlq_utf8.proofs.is_ascii_or_sequence.Goals as goal
+
+pub returns-then-is_ascii : goal.returns-then-is_ascii
+returns-then-is_ascii c = c.if-is_ascii.true ∙ sym (ascii-utf8 _ c.if-is_ascii.ensures.cases)
