@@ -1,41 +1,40 @@
-// RFC 7693's Appendix A, and digests of the bytes 0, 1, .. 255, 0, .. at several lengths, one to a line.
+// RFC 7693's Appendix A, and digests of the bytes 0, 1, .. 255, 0, .. at several lengths, one to a line. A write that
+// fails is passed over: what follows is written all the same.
 #![tactic(auto)]
 
 ghost use Rattle.std.specs.Prelude.{◌+◌, ◌≤◌, length};
 
 use blake2b_hash::Hash;
-use std::io::Result;
 
-fn main(rt: HostRuntime) -> Result<()> {
-    appendix_a(&rt)?;
+fn main(rt: HostRuntime) {
+    appendix_a(&rt);
     let s = counting();
     for n in [0, 1, 3, 64, 127, 128, 129, 255, 256, 1000] {
         let part = &s[..s.len().min(n)];
-        print!(rt; "{n} ")?;
-        print_bytes(&rt, &blake2b_hash::digest(part))?;
-        println!(rt; "")?;
+        let _ = print!(rt; "{n} ");
+        print_bytes(&rt, &blake2b_hash::digest(part));
+        let _ = println!(rt; "");
     }
     for n in [129, 256, 1000] {
         let part = &s[..s.len().min(n)];
-        print!(rt; "steps {n} ")?;
-        print_bytes(&rt, &run(part))?;
-        println!(rt; "")?;
+        let _ = print!(rt; "steps {n} ");
+        print_bytes(&rt, &run(part));
+        let _ = println!(rt; "");
     }
-    Ok(())
 }
 
 // BLAKE2b-512 of "abc": the words of the state, then its bytes.
-fn appendix_a(rt: &impl Print) -> Result<()> {
+fn appendix_a(rt: &impl Print) {
     let h = abc();
-    print!(rt; "h")?;
+    let _ = print!(rt; "h");
     for x in h {
-        print!(rt; " {x:016x}")?;
+        let _ = print!(rt; " {x:016x}");
     }
-    print!(rt; "\nabc ")?;
+    let _ = print!(rt; "\nabc ");
     for x in h {
-        print_bytes(rt, &x.to_le_bytes())?;
+        print_bytes(rt, &x.to_le_bytes());
     }
-    println!(rt; "")
+    let _ = println!(rt; "");
 }
 
 // The one block of "abc" through F, with 64 and not 32 for the digest length in the parameter word.
@@ -74,9 +73,8 @@ fn counting() -> [u8; 1000] {
     s
 }
 
-fn print_bytes(rt: &impl Print, bytes: &[u8]) -> Result<()> {
+fn print_bytes(rt: &impl Print, bytes: &[u8]) {
     for b in bytes {
-        print!(rt; "{b:02x}")?;
+        let _ = print!(rt; "{b:02x}");
     }
-    Ok(())
 }

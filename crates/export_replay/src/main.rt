@@ -10,6 +10,7 @@ mod tables;
 mod writers;
 
 use case::Case;
+use print::Output;
 use std::io::Result;
 
 // The descriptor of standard input.
@@ -19,6 +20,7 @@ const STDIN: i32 = 0;
 const MOST: usize = 260_000;
 
 fn main(rt: HostRuntime) -> Result<()> {
+    let rt = Output(&rt);
     let mut cases = [0u8; MOST + 1];
     let n = io::read_full(STDIN, &mut cases);
     if n <= MOST && replay(&rt, &cases[..n])? {
@@ -44,7 +46,8 @@ fn replay(rt: &impl Print, cases: &[u8]) -> Result<bool> {
     Ok(true)
 }
 
-// The functions by their numbers.
+// The functions by their numbers. Each of the three is compiled into no other, so that the stack has room for its own
+// cases alone.
 fn answer(rt: &impl Print, case: &Case) -> Result<()> {
     match case.function {
         9..=17 => results::answer(rt, case),

@@ -6,6 +6,7 @@ use haspeljo::{bodies, frames, handshakes, sessions};
 use std::convert::AsSlice;
 use std::io::Result;
 
+#[inline(never)]
 pub(crate) fn answer(rt: &impl Print, c: &Case) -> Result<()> {
     match c.function {
         1..=5 => answer_field(rt, c, c.bytes, c.usize(0)),

@@ -3,6 +3,7 @@ use crate::case::Case;
 use crate::print;
 use std::io::Result;
 
+#[inline(never)]
 pub(crate) fn answer(rt: &impl Print, c: &Case) -> Result<()> {
     match c.function {
         9 => print!(rt;

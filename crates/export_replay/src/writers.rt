@@ -9,6 +9,7 @@ use std::io::Result;
 // The largest output of a case.
 const MAX_ROOM: usize = 640;
 
+#[inline(never)]
 pub(crate) fn answer(rt: &impl Print, c: &Case) -> Result<()> {
     let mut out = [0xA5; MAX_ROOM];
     let out = &mut out[..c.usize(1).min(MAX_ROOM)];
@@ -37,7 +38,9 @@ fn write_bytes(c: &Case, out: &mut [u8], r: &mut [u64; 1]) -> u8 {
     }
 }
 
-// Two tables, of entries and of features, and the buffer.
+// Two tables, of entries and of features, and the buffer. A function of its own, as the next, so that no table lies on
+// the stack while the answer is printed.
+#[inline(never)]
 fn write_entries(c: &Case, out: &mut [u8], r: &mut [u64; 1]) -> u8 {
     let mut entries = [0; MOST];
     let mut features = [0; MOST];
@@ -52,6 +55,7 @@ fn write_entries(c: &Case, out: &mut [u8], r: &mut [u64; 1]) -> u8 {
 }
 
 // A table of ids or payloads, and the buffer.
+#[inline(never)]
 fn write_list(c: &Case, out: &mut [u8], r: &mut [u64; 1]) -> u8 {
     let mut list = [0; MOST];
     let (l, buffer) = table(c.bytes, &mut list);

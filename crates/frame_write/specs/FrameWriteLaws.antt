@@ -11,9 +11,9 @@ use borrow.Author.Tests.{le-leb, leb-true}
 use Rattle.wire.specs.Bytes.{big_endian_bytes}
 use Rattle.wire.proofs.BytesLaws.{length-big_endian_bytes}
 use Rattle.wire.specs.declared.Refusal.{Refusal}
-use Rattle.wire.specs.Output.{Written, To, said, put, asked, written, output_after, Wrote}
-use Rattle.wire.proofs.OutputLaws.{put-here, wrote_then, wrote_length, asked-to}
-use Rattle.wire.proofs.StandingLaws.{put_standing, put-over}
+use Rattle.wire.specs.Output.{Written, To, written_said, put, asked, written, output_after, Wrote}
+use Rattle.wire.proofs.OutputLaws.{put-here, wrote_then, wrote_length, wrote_checked, asked-to}
+use Rattle.wire.proofs.StandingLaws.{put_standing, put-over, after_none}
 use Rattle.wire.proofs.ReaderLaws.{length_part}
 use Rattle.vlq.specs.Vlq.{limit}
 use Rattle.blake2b.specs.Blake2b.{check}
@@ -108,10 +108,10 @@ closed-to : (len at n : ℕ) → n ≤ limit → at + frame_length n ≤ len →
 unfolding frame_written_for asked
 closed-to len at n small room = rw (le-leb at len (omega arith), le-leb n limit small, le-leb (at + frame_length n) len room)
 
-pub closed-ok : (len at n : ℕ) (r : Result ℕ Refusal) → said r ≡ frame_written_for len at n → n ≤ limit → at + frame_length n ≤ len → IsOk r
+pub closed-ok : (len at n : ℕ) (r : Result ℕ Refusal) → written_said r ≡ frame_written_for len at n → n ≤ limit → at + frame_length n ≤ len → IsOk r
 closed-ok len at n (Ok e) says small room = refl
 closed-ok len at n (Err m) says small room =
-    let q : said (Err m) ≡ To (at + frame_length n) = says ∙ closed-to len at n small room in
+    let q : written_said (Err m) ≡ To (at + frame_length n) = says ∙ closed-to len at n small room in
     let z : ◌≡◌ {A = ℕ} 0 1 = cc in
     absurd (omega arith)
 
@@ -160,6 +160,13 @@ module _ (network : Network) (code : ℕ) (out : List ℕ) (at : ℕ) (body : Li
         around (rw (p, stands) at left)
 
 -- ---- what the calls say
+
+-- a body that has room in its frame was stored there
+pub wrote_body : (out : List ℕ) (at : ℕ) (body : List ℕ) {r : Written} {mid : List ℕ} → at + frame_length (length body) ≤ length out
+    → r ≡ written [] [] out (at + 13) body → mid ≡ output_after r out (at + 13) body → Wrote out (at + 13) body (at + 13 + length body) mid
+wrote_body out at [] {r} {mid} room says left = record { end = refl; bytes = left ∙ after_none r out (at + 13) }
+wrote_body out at (b ∷ bs) room says left =
+    wrote_checked [] [] out (at + 13) (b ∷ bs) says left tt tt (omega (arith, frame_length-body (length (b ∷ bs)) (omega arith)))
 
 -- what the writer of a frame says is what is said by sizes
 pub said-frame : (network : Network) (code : ℕ) (body out : List ℕ) (at : ℕ) → frame_written network code body out at ≡ frame_written_for (length out) at (length body)

@@ -4,7 +4,7 @@
 #![tactic(auto)]
 
 ghost use Rattle.std.specs.Prelude.{◌≡◌, ◌+◌, ◌≤◌, length, take, drop};
-ghost use Rattle.wire.specs.Output.{said, output_after, Wrote};
+ghost use Rattle.wire.specs.Output.{written_said, output_after, Wrote};
 ghost use Rattle.vlq.specs.Vlq.{limit};
 ghost use Rattle.frame.specs.Frame.{frame_bytes};
 ghost use Rattle.frame.specs.Writes.{frame_written};
@@ -27,8 +27,8 @@ pub fn encode(
     code: u8,
     body: &[u8],
 ) -> Result<usize, Refusal>
-    ensures value { said result ≡ frame_written network code body.now out.old at }
-    ensures out_after { out.new ≡ output_after (said result) out.old at (frame_bytes network code body.now) }
+    ensures value { written_said result ≡ frame_written network code body.now out.old at }
+    ensures out_after { out.new ≡ output_after (written_said result) out.old at (frame_bytes network code body.now) }
 {
     let end = ask_frame(out.len(), at, body.len())?;
     put_body(out, at, network, code, body);
@@ -44,8 +44,8 @@ pub fn close_frame(
     code: u8,
     n: usize,
 ) -> Result<usize, Refusal>
-    ensures value { said result ≡ frame_written_for (length out.old) at n }
-    ensures out_after { out.new ≡ output_after (said result) out.old at (frame_bytes network code (take n (drop (at + 13) out.old))) }
+    ensures value { written_said result ≡ frame_written_for (length out.old) at n }
+    ensures out_after { out.new ≡ output_after (written_said result) out.old at (frame_bytes network code (take n (drop (at + 13) out.old))) }
 {
     let end = ask_frame(out.len(), at, n)?;
     put_frame(out, at, network, code, n);
@@ -55,7 +55,7 @@ pub fn close_frame(
 // What a writer of a frame with a body of n bytes says of an output of len bytes.
 #[tactic(auto, unfolding(wire::specs::Output::asked, crate::specs::Asked::frame_written_for))]
 pub fn ask_frame(len: usize, at: usize, n: usize) -> Result<usize, Refusal>
-    ensures { said result ≡ frame_written_for len at n }
+    ensures { written_said result ≡ frame_written_for len at n }
 {
     if len < at {
         return Err(Refusal::Outside);

@@ -5,7 +5,7 @@
 
 ghost use Rattle.std.specs.Prelude.{◌≡◌, [], ◌∷◌, ◌++◌, ◌+◌, ◌≤◌, length};
 ghost use Rattle.wire.specs.Bytes.{big_endian_bytes};
-ghost use Rattle.wire.specs.Output.{said, written, output_after, Wrote};
+ghost use Rattle.wire.specs.Output.{written_said, written, output_after, Wrote};
 ghost use Rattle.vlq.specs.Vlq.{vlq_bytes};
 ghost use Rattle.handshake.specs.Value.{address_bytes};
 
@@ -20,8 +20,8 @@ use wire_part_write::write_part;
 // Flag 0, or flag 1, L, the address's bytes and the port.
 #[tactic(auto, unfolding(wire::specs::Output::asked, wire::specs::Output::written, wire::specs::Output::output_after))]
 pub fn write_address(out: &mut [u8], at: usize, address: Address) -> Result<usize, Refusal>
-    ensures value { said result ≡ written [] [] out.old at (address_bytes address) }
-    ensures out_after { out.new ≡ output_after (said result) out.old at (address_bytes address) }
+    ensures value { written_said result ≡ written [] [] out.old at (address_bytes address) }
+    ensures out_after { out.new ≡ output_after (written_said result) out.old at (address_bytes address) }
 {
     let end = ask_room(out.len(), at, address_len(address))?;
     put_address(out, at, address);

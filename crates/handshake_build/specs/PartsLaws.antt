@@ -1,5 +1,6 @@
--- Laws of the parts of `build`: the handshake is its parts one after the other, and what is asked of it.
-use Rattle.std.specs.Prelude.{ℕ, ◌+◌, ◌≤◌, ◌&&◌, ◌≡◌, refl, length}
+-- Laws of the parts of `build`: a writer that is not refused ends after its bytes, the handshake is its parts one after
+-- the other, and what is asked of it.
+use Rattle.std.specs.Prelude.{ℕ, ◌+◌, ◌≤◌, ◌&&◌, ◌≡◌, refl, ℤ, length}
 use native.Mathlib.Omega.{arith}
 use Rattle.std.proofs.Math.Bool.{true}
 use mathlib.Core.List.{List, [], ◌∷◌, ◌++◌, flat_map, append_assoc, append-nil}
@@ -10,8 +11,8 @@ use Rattle.std.proofs.Math.ListN.{length-append}
 use borrow.Author.Tests.{le-leb, leb-true}
 use Rattle.wire.specs.Bytes.{every}
 use Rattle.wire.proofs.BytesLaws.{and-true}
-use Rattle.wire.specs.Output.{sized, Written, Size, Bytes}
-use Rattle.wire.proofs.OutputLaws.{AllHold}
+use Rattle.wire.specs.Output.{Question, sized, written, output_after, Written, Size, Bytes, Wrote}
+use Rattle.wire.proofs.OutputLaws.{AllHold, wrote_checked}
 use Rattle.vlq_utf8.specs.Utf8.{utf8}
 use Rattle.vlq.specs.Vlq.{limit, vlq_bytes}
 use Rattle.vlq.specs.ShortString.{max_short_string, short_string_bytes}
@@ -22,6 +23,23 @@ use Rattle.wire_output.specs.AskedLaws.{Without16, output-rest}
 use Rattle.handshake_features_write.specs.Features.{mode_feature_of, session_feature_of}
 use Rattle.handshake_build.specs.declared.Config.{Config}
 use Rattle.handshake_build.specs.Parts.{config_of, built_size, BuildReady, before_address_bytes, mode_feature_bytes, session_feature_bytes}
+
+-- a writer whose questions hold and that has room ends at e, the place after its bytes
+pub wrote_end : (before after : List Question) (out : List ℕ) (at : ℕ) (bs : List ℕ) (e : ℕ) {r : Written} {last : List ℕ}
+    → r ≡ written before after out at bs → last ≡ output_after r out at bs → e ≡ at + length bs
+    → AllHold before → AllHold after → at + length bs ≤ length out → Wrote out at bs e last
+wrote_end before after out at bs e says left is f t h =
+    record { end = is; bytes = (wrote_checked before after out at bs says left f t h).bytes }
+
+-- the same of bytes that depend on a signed number n, which the writer was passed as m
+pub wrote_passed : (out : List ℕ) (at : ℕ) (bytes : ℤ → List ℕ) (n : ℤ) (e : ℕ) {m : ℤ} {r : Written} {last : List ℕ} → m ≡ n
+    → r ≡ written [] [] out at (bytes m) → last ≡ output_after r out at (bytes m) → e ≡ at + length (bytes n)
+    → at + length (bytes n) ≤ length out → Wrote out at (bytes n) e last
+wrote_passed out at bytes n e {m} {r} p says left is h =
+    wrote_end [] [] out at (bytes n) e
+    (says ∙ ap (λ (k : ℤ). written [] [] out at (bytes k)) p)
+    (left ∙ ap (λ (k : ℤ). output_after r out at (bytes k)) p)
+    is tt tt h
 
 regroup : (a b v n r : List ℕ) → (a ++ (b ++ (v ++ n))) ++ r ≡ a ++ (b ++ (v ++ (n ++ r)))
 regroup a b v n r =

@@ -3,7 +3,7 @@
 #![tactic(auto)]
 
 ghost use Rattle.std.specs.Prelude.{◌≡◌, ◌∷◌, ◌++◌, ◌+◌, ◌^◌, ◌≤◌, ◌<◌, length};
-ghost use Rattle.wire.specs.Output.{said, size_said, output_after, Wrote};
+ghost use Rattle.wire.specs.Output.{written_said, size_said, output_after, Wrote};
 ghost use Rattle.vlq.specs.Vlq.{vlq_bytes};
 ghost use Rattle.vlq.specs.ShortString.{max_short_string};
 ghost use Rattle.handshake.specs.Value.{AddressTyped, address_bytes, handshake_bytes};
@@ -40,8 +40,8 @@ pub fn build(
     agent: &[u8],
     name: &[u8],
 ) -> Result<usize, Refusal>
-    ensures value { said result ≡ built_written (config_of config agent.now name.now) out.old at }
-    ensures out_after { out.new ≡ output_after (said result) out.old at (handshake_bytes (built (config_of config agent.now name.now))) }
+    ensures value { written_said result ≡ built_written (config_of config agent.now name.now) out.old at }
+    ensures out_after { out.new ≡ output_after (written_said result) out.old at (handshake_bytes (built (config_of config agent.now name.now))) }
     ensures timestamp_bound { (config.timestamp < 2 ^ 64) × AddressTyped config.address }
 {
     let size = build_size(config, agent, name);

@@ -2,7 +2,7 @@
 // "Questions", Writers): how many bytes they are written as, or the first question answered "no".
 #![tactic(auto)]
 
-ghost use Rattle.std.specs.Prelude.{◌≡◌, ℕ, ◌+◌, ◌/◌, ◌≤◌, min, leb, length};
+ghost use Rattle.std.specs.Prelude.{true, ◌≡◌, ℕ, ◌+◌, ◌/◌, ◌≤◌, min, leb, length};
 ghost use mathlib.Core.List.{List, [], ◌∷◌, map, flat_map};
 ghost use Rattle.wire.specs.Bytes.{every};
 ghost use Rattle.wire.specs.Refusals.{number};
@@ -15,7 +15,7 @@ ghost use Rattle.handshake.specs.Tables.{own_rows, entry_rows, feature_from_row,
 ghost use Rattle.handshake_entry_rows.specs.Row.{tables_of};
 ghost use Rattle.handshake_entry_ask.specs.Asked.{row_size, entry_size, entries_size, size_of, row_numbers, counted_to_limit, body_size};
 
-use handshake::{EntryRow, IPV4_LENGTH, IPV6_LENGTH, MAX_FEATURES};
+use handshake::{EntryRow, FEATURE_ROW_SIZE, IPV4_LENGTH, IPV6_LENGTH, MAX_FEATURES};
 use handshake_entry_rows::{Tables, address_size};
 use vlq::MAX_SHORT_STRING;
 use vlq_utf8::is_utf8;
@@ -197,20 +197,21 @@ fn address_len(e: EntryRow) -> usize
     1
 }
 
-// Of `before` bytes and the features of a row: 3 is asked of each length.
+// Of `before` bytes and the features of a row, whose bodies are inside: 3 is asked of each length. The lengths are read
+// where they are known to stand, without the tests of `Tables::feature_at` and `bytes_at`, which take their time.
 fn features_size(before: usize, t: Tables, e: EntryRow) -> Result<usize, Refusal>
-    requires { (before ≤ 1000) × (e.count ≤ 255) × (e.first + e.count ≤ length t.features.now / 3) }
+    requires before_bound { (before ≤ 1000) × (e.count ≤ 255) × (e.first + e.count ≤ length t.features.now / 3) }
+    requires count_value { every (feature_inside t.buffer.now) (own_rows (tables_of t) e) ≡ true }
     ensures { size_said result ≡ sized (ask 3 (lengths_within (entry_from_row (tables_of t.entry) e)) ∷ []) (before + length (flat_map feature_bytes (map (feature_from_row t.entry.buffer.now) (own_rows (tables_of t.entry) e)))) }
 {
     let first = e.first as usize;
     let mut m = before;
     for k in 0..e.count as usize {
-        let f = t.feature_at(first + k);
-        let body = t.bytes_at(f.at, f.len);
-        if MAX_BODY_SIZE < body.len() {
+        let n = t.features[FEATURE_ROW_SIZE * (first + k) + 2] as usize;
+        if MAX_BODY_SIZE < n {
             return Err(Refusal::LengthTooLarge);
         }
-        m += feature_len(body.len());
+        m += feature_len(n);
     }
     Ok(m)
 }

@@ -67,9 +67,13 @@ impl<'a> Tables<'a> {
         ensures { result.now ≡ bytes_at self.entry.buffer.now at len }
     {
         let buffer = self.buffer;
-        let start = buffer.len().min(at as usize);
-        let n = (buffer.len() - start).min(len as usize);
-        &buffer[start..start + n]
+        let start = at as usize;
+        let end = start + len as usize;
+        if end <= buffer.len() {
+            &buffer[start..end]
+        } else {
+            &buffer[buffer.len().min(start)..]
+        }
     }
 
     // Has each table whole rows, with numbers as they should be (question 16)?

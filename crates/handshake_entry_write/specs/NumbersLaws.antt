@@ -1,6 +1,6 @@
 -- What a row's numbers say, its strings and its address.
-use Rattle.std.specs.Prelude.{ℕ, ◌+◌, ◌-◌, ◌<◌, true, ◌||◌, List, [], ◌∷◌, ◌++◌, ◌≡◌, eqb, leb, length, drop}
-use Rattle.std.proofs.Common.{arith, ⊎_elim, ap, length-append, ltb-true, ne_eqb}
+use Rattle.std.specs.Prelude.{ℕ, ◌+◌, ◌-◌, ◌≤◌, ◌<◌, true, ◌||◌, List, [], ◌∷◌, ◌++◌, ◌≡◌, eqb, leb, length, drop}
+use Rattle.std.proofs.Common.{arith, ⊎_elim, ap, length-append, ltb-true, leb-true, ne_eqb}
 use Rattle.wire.specs.Bytes.{every}
 use Rattle.wire.proofs.BytesLaws.{is_byte, every_take, every_drop}
 use Rattle.handshake.specs.declared.EntryRow.{EntryRow}
@@ -21,6 +21,10 @@ id-byte f h = ltb-true f.id 256 h
 pub address-zero : (l : ℕ) (bytes : List ℕ) (port : ℕ) → l ≡ 0 → address_bytes (address_of l bytes port) ≡ 0 ∷ []
 unfolding address_bytes address_of
 address-zero l bytes port e = rw e
+
+pub address-within : (r : EntryRow) (len : ℕ) → (eqb r.addrlen 0 || leb (r.addrat + (r.addrlen - 4)) len) ≡ true → (r.addrlen ≡ 0 → ⊥)
+    → r.addrat + (r.addrlen - 4) ≤ len
+address-within r len part some = leb-true (r.addrat + (r.addrlen - 4)) len (rw (ne_eqb r.addrlen 0 some) at part)
 
 module _ (buffer : List ℕ) (r : EntryRow) (are : every is_byte buffer ≡ true) (numbers : entry_numbers r ≡ true)
     (part : (eqb r.addrlen 0 || leb (r.addrat + (r.addrlen - 4)) (length buffer)) ≡ true) (some : r.addrlen ≡ 0 → ⊥)

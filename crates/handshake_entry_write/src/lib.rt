@@ -5,7 +5,8 @@
 ghost use Rattle.std.specs.Prelude.{◌||◌, true, ◌≡◌, ◌+◌, ◌-◌, ◌/◌, ◌≤◌, eqb, leb, length};
 ghost use mathlib.Core.List.{[], ◌∷◌, map, flat_map};
 ghost use Rattle.wire.specs.Bytes.{every};
-ghost use Rattle.wire.specs.Output.{said, output_after, Wrote};
+ghost use Rattle.wire.specs.Output.{written_said, output_after, Wrote};
+ghost use Rattle.vlq.specs.Vlq.{vlq_bytes};
 ghost use Rattle.vlq.specs.ShortString.{max_short_string, short_string_bytes};
 ghost use Rattle.handshake.specs.Entry.{address_of};
 ghost use Rattle.handshake.specs.Value.{address_bytes, feature_bytes, entry_bytes, short_strings};
@@ -16,7 +17,7 @@ ghost use Rattle.handshake_entry_ask.specs.Asked.{head_bytes};
 ghost use Rattle.handshake_entry_write.specs.Ready.{Ready, EntriesReady};
 ghost use Rattle.handshake_entry_write.specs.Rows.{rows_written};
 
-use handshake::{EntryRow, FeatureRow};
+use handshake::{EntryRow, FEATURE_ROW_SIZE, FeatureRow};
 use handshake_entry_ask::{ask_entries, ask_entry};
 use handshake_entry_rows::{Tables, address_size};
 use vlq_write::write_vlq;
@@ -26,8 +27,8 @@ use wire_part_write::write_part;
 
 // The entry in row k. 16 is asked of every row of both tables.
 pub fn write_entry(out: &mut [u8], at: usize, t: Tables, k: usize) -> Result<usize, Refusal>
-    ensures value { said result ≡ entry_written (tables_of t.entry) k out.old at }
-    ensures out_after { out.new ≡ output_after (said result) out.old at (entry_bytes (entry_at_row (tables_of t.entry) k)) }
+    ensures value { written_said result ≡ entry_written (tables_of t.entry) k out.old at }
+    ensures out_after { out.new ≡ output_after (written_said result) out.old at (entry_bytes (entry_at_row (tables_of t.entry) k)) }
 {
     let end = ask_output(out.len(), at, ask_entry(t, k))?;
     put_entry(out, at, t, t.entry_at(k));
@@ -36,8 +37,8 @@ pub fn write_entry(out: &mut [u8], at: usize, t: Tables, k: usize) -> Result<usi
 
 // All entries of a table, one after the other: the end of a body that has `before` bytes before them.
 pub fn write_rows(out: &mut [u8], at: usize, before: usize, t: Tables) -> Result<usize, Refusal>
-    ensures value { said result ≡ rows_written (tables_of t.entry) before out.old at }
-    ensures out_after { out.new ≡ output_after (said result) out.old at (flat_map entry_bytes (entries_of (tables_of t.entry))) }
+    ensures value { written_said result ≡ rows_written (tables_of t.entry) before out.old at }
+    ensures out_after { out.new ≡ output_after (written_said result) out.old at (flat_map entry_bytes (entries_of (tables_of t.entry))) }
 {
     let end = ask_output(out.len(), at, ask_entries(before, t))?;
     put_rows(out, at, t);
@@ -116,31 +117,59 @@ fn put_address(out: &mut [u8], at: usize, t: Tables, e: EntryRow) -> usize
     out[at] = 1;
     out[at + 1] = e.addrlen as u8;
     let a = write_part(out, at + 2, bytes).unwrap();
-    write_vlq(out, a, e.port as u64).unwrap()
+    put_vlq(out, a, e.port as u64)
 }
 
-// Stores the features of a row.
+// Stores the features of a row, whose bodies are inside. Rows and bodies are read where they are known to stand, without
+// the tests of `Tables::feature_at` and `bytes_at`: with these an entry of many features takes a third more time.
 fn put_features(out: &mut [u8], at: usize, t: Tables, e: EntryRow) -> usize
     requires count_in_bounds { e.first + e.count ≤ length t.features.now / 3 }
-    requires count_value { every feature_numbers (own_rows (tables_of t) e) ≡ true }
+    requires count_value { (every feature_numbers (own_rows (tables_of t) e) ≡ true) × (every (feature_inside t.buffer.now) (own_rows (tables_of t) e) ≡ true) }
     requires count_in_bounds_2 { at + length (flat_map feature_bytes (map (feature_from_row t.buffer.now) (own_rows (tables_of t) e))) ≤ length out.old }
     ensures { Wrote out.old at (flat_map feature_bytes (map (feature_from_row t.entry.buffer.now) (own_rows (tables_of t.entry) e))) result out.new }
 {
     let first = e.first as usize;
     let mut o = at;
     for k in 0..e.count as usize {
-        o = put_feature(out, o, t, t.feature_at(first + k));
+        let b = FEATURE_ROW_SIZE * (first + k);
+        let f = FeatureRow {
+            id: t.features[b],
+            at: t.features[b + 1],
+            len: t.features[b + 2],
+        };
+        o = put_feature(out, o, t.buffer, f);
     }
     o
 }
 
-fn put_feature(out: &mut [u8], at: usize, t: Tables, f: FeatureRow) -> usize
-    requires f_value { feature_numbers f ≡ true }
-    requires f_in_bounds { at + length (feature_bytes (feature_from_row t.buffer.now f)) ≤ length out.old }
-    ensures { Wrote out.old at (feature_bytes (feature_from_row t.entry.buffer.now f)) result out.new }
+fn put_feature(out: &mut [u8], at: usize, buffer: &[u8], f: FeatureRow) -> usize
+    requires f_value { (feature_numbers f ≡ true) × (f.at + f.len ≤ length buffer.now) }
+    requires f_in_bounds { at + length (feature_bytes (feature_from_row buffer.now f)) ≤ length out.old }
+    ensures { Wrote out.old at (feature_bytes (feature_from_row buffer.now f)) result out.new }
 {
-    let body = t.bytes_at(f.at, f.len);
+    let body = part_of(buffer, f.at, f.len);
     out[at] = f.id as u8;
-    let a = write_vlq(out, at + 1, body.len() as u64).unwrap();
+    let a = put_vlq(out, at + 1, body.len() as u64);
     write_part(out, a, body).unwrap()
+}
+
+// The bytes of the buffer that a row names; all are there.
+fn part_of(buffer: &[u8], at: u32, len: u32) -> &[u8]
+    requires { at + len ≤ length buffer.now }
+    ensures { result.now ≡ bytes_at buffer.now at len }
+{
+    let start = at as usize;
+    &buffer[start..start + len as usize]
+}
+
+// Stores the VLQ of value and gives the place after it. Most have one byte, whose room is known.
+fn put_vlq(out: &mut [u8], at: usize, value: u64) -> usize
+    requires { at + length (vlq_bytes value) ≤ length out.old }
+    ensures { Wrote out.old at (vlq_bytes value) result out.new }
+{
+    if value < 0x80 {
+        out[at] = value as u8;
+        return at + 1;
+    }
+    write_vlq(out, at, value).unwrap()
 }

@@ -4,7 +4,7 @@
 #![tactic(auto)]
 
 ghost use Rattle.std.specs.Prelude.{◌≡◌, [], ◌+◌, ◌≤◌, length, Bool, ℕ};
-ghost use Rattle.wire.specs.Output.{said, written, output_after, Wrote};
+ghost use Rattle.wire.specs.Output.{written_said, written, output_after, Wrote};
 ghost use Rattle.types.specs.declared.Network.{Network};
 ghost use Rattle.handshake.specs.Value.{feature_bytes};
 ghost use Rattle.handshake.specs.Writes.{nipopow};
@@ -33,8 +33,8 @@ pub struct Mode {
 // The state type byte, whether transactions are verified, and how many blocks are kept.
 #[tactic(auto, unfolding(wire::specs::Output::asked, wire::specs::Output::written, wire::specs::Output::output_after))]
 pub fn write_mode(out: &mut [u8], at: usize, mode: Mode) -> Result<usize, Refusal>
-    ensures value { said result ≡ written [] [] out.old at (feature_bytes (mode_feature_of mode)) }
-    ensures out_after { out.new ≡ output_after (said result) out.old at (feature_bytes (mode_feature_of mode)) }
+    ensures value { written_said result ≡ written [] [] out.old at (feature_bytes (mode_feature_of mode)) }
+    ensures out_after { out.new ≡ output_after (written_said result) out.old at (feature_bytes (mode_feature_of mode)) }
 {
     let end = ask_room(out.len(), at, mode_len(mode))?;
     put_mode(out, at, mode);
@@ -87,8 +87,8 @@ pub fn write_session(
     network: Network,
     session: i64,
 ) -> Result<usize, Refusal>
-    ensures value { said result ≡ written [] [] out.old at (feature_bytes (session_feature_of network session)) }
-    ensures out_after { out.new ≡ output_after (said result) out.old at (feature_bytes (session_feature_of network session)) }
+    ensures value { written_said result ≡ written [] [] out.old at (feature_bytes (session_feature_of network session)) }
+    ensures out_after { out.new ≡ output_after (written_said result) out.old at (feature_bytes (session_feature_of network session)) }
 {
     let end = ask_room(out.len(), at, session_len(session))?;
     put_session(out, at, network, session);

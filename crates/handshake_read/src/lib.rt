@@ -125,7 +125,8 @@ fn read_version(s: &[u8], c: Cursor) -> Read<Version>
     Ok((version, f))
 }
 
-// A feature count byte, and the features.
+// A feature count byte, and the features. Compiled into its one caller, since its answer would go through memory.
+#[inline(always)]
 #[tactic(auto, using(crate::proofs::AnswerLaws::answers, crate::proofs::AnswerLaws::counted), unfolding(crate::specs::Parts::features))]
 fn read_features(s: &[u8], c: Cursor) -> Read<Features>
     ensures { read_answer result ≡ map_answer features_of (features s.now c.at) }

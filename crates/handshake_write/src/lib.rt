@@ -4,7 +4,7 @@
 
 ghost use Rattle.std.specs.Prelude.{◌≡◌, ◌^◌, ◌<◌, true, ltb};
 ghost use Rattle.wire.specs.Bytes.{every};
-ghost use Rattle.wire.specs.Output.{said, output_after};
+ghost use Rattle.wire.specs.Output.{written_said, output_after};
 ghost use Rattle.handshake.specs.Value.{handshake_bytes};
 ghost use Rattle.handshake.specs.Writes.{handshake_at_row, handshake_written};
 ghost use Rattle.handshake_entry_rows.specs.Row.{tables_of};
@@ -25,8 +25,8 @@ pub fn write_handshake(
     t: Tables,
     k: usize,
 ) -> Result<usize, Refusal>
-    ensures value { said result ≡ handshake_written timestamp (tables_of t.entry) k out.old at }
-    ensures out_after { out.new ≡ output_after (said result) out.old at (handshake_bytes (handshake_at_row timestamp (tables_of t.entry) k)) }
+    ensures value { written_said result ≡ handshake_written timestamp (tables_of t.entry) k out.old at }
+    ensures out_after { out.new ≡ output_after (written_said result) out.old at (handshake_bytes (handshake_at_row timestamp (tables_of t.entry) k)) }
     ensures timestamp_bound { (timestamp < 2 ^ 64) × (every (λ b. ltb b 256) t.entry.buffer.now ≡ true) }
 {
     let place = place_behind(out.len(), at, vlq_len(timestamp));

@@ -1,6 +1,6 @@
 // Writers for Rust and C, each from a place of a lent output. r is the place after what was written.
 ghost use Rattle.std.specs.Prelude.{◌≡◌};
-ghost use Rattle.wire.specs.Output.{said};
+ghost use Rattle.wire.specs.Output.{written_said};
 ghost use Rattle.handshake.specs.Tables.{tables};
 ghost use Rattle.handshake_build.specs.Parts.{config_of};
 ghost use Rattle.messages.specs.Writes.{write_get_peers, write_peers, write_modifier_request, write_modifier_response, write_inv, write_sync_info, write_unknown};
@@ -277,8 +277,8 @@ pub fn haspeljo_build(
 
 // 0, with the end in r; or the refusal number, with r as it was.
 fn written_result(w: Result<usize, Refusal>, r: &mut [u64; 1]) -> u8
-    ensures value { result ≡ written_number (said w) }
-    ensures r_after { r.new ≡ end_after (said w) r.old }
+    ensures value { result ≡ written_number (written_said w) }
+    ensures r_after { r.new ≡ end_after (written_said w) r.old }
 {
     match w {
         Ok(end) => {

@@ -12,7 +12,7 @@ abbrev pub inventory_header_answer : Result (Given.InventoryHeader × BodyPlace)
 inventory_header_answer (Ok (h, p)) = got (record { type = h.modifier_type; count = h.count }) p.0
 inventory_header_answer (Err m) = refused (number m)
 
--- ---- Only for laws and proofs: no public contract and no theorem cites what follows.
+-- ---- Only for laws, proofs and private functions: no public contract and no theorem cites what follows.
 
 -- `header` from the answers of the byte and of the VLQ after it
 abbrev pub header_of : Answer ℕ → Answer ℕ → Answer InventoryHeader

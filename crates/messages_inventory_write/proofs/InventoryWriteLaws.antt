@@ -1,13 +1,13 @@
 -- Laws of the writers of ModifierRequest and Inv: what is said by sizes is what `message_written` says; and the lengths
 -- of their bodies.
-use Rattle.std.specs.Prelude.{ℕ, zero, suc, ◌+◌, ◌*◌, ◌≤◌, true, ◌≡◌, refl, leb, length, get_or}
-use Rattle.std.proofs.Common.{arith, sym, ap, ◌∙◌, length-append, leb-true}
+use Rattle.std.specs.Prelude.{ℕ, zero, suc, ◌+◌, ◌*◌, ◌≤◌, true, ◌≡◌, refl, leb, length, get_or, set}
+use Rattle.std.proofs.Common.{arith, sym, ap, ◌∙◌, length-set, length-append, leb-true}
 use mathlib.Core.List.{List, [], ◌∷◌, ◌++◌, map, flat_map}
 use Rattle.std.proofs.lemmas.List.{length-map}
 use Rattle.wire.specs.Bytes.{every}
 use Rattle.wire.proofs.BytesLaws.{and-true}
-use Rattle.wire.specs.Output.{To, asked, written}
-use Rattle.wire.proofs.OutputLaws.{asked-to}
+use Rattle.wire.specs.Output.{Written, To, asked, written, output_after, Wrote}
+use Rattle.wire.proofs.OutputLaws.{wrote_byte, wrote_then, wrote_checked, asked-to}
 use Rattle.vlq.specs.Vlq.{limit, vlq_bytes}
 use Rattle.vlq.proofs.VlqLaws.{vlq_ten}
 use Rattle.types.specs.declared.Network.{Network}
@@ -77,6 +77,16 @@ asked-ids type ids buffer len at {e} says =
     let n : ℕ = length (ids_bytes type (ids_of ids buffer)) in
     let h = (asked-to _ (To (at + frame_length n)) e (sym says)).0 in
     (h.1.0, (leb-true n limit h.1.1.1.0, leb-true (at + frame_length n) len h.1.1.1.1.0))
+
+-- ---- what was stored
+
+-- a type byte, and a count after it
+pub count_stored : (type n : ℕ) (out : List ℕ) (at : ℕ) {r : Written} {mid : List ℕ} → at + 1 + length (vlq_bytes n) ≤ length out
+    → r ≡ written [] [] (set out at type) (at + 1) (vlq_bytes n) → mid ≡ output_after r (set out at type) (at + 1) (vlq_bytes n)
+    → Wrote out at ((type ∷ []) ++ vlq_bytes n) (at + 1 + length (vlq_bytes n)) mid
+count_stored type n out at room says left =
+    wrote_then (wrote_byte out at type)
+    (wrote_checked [] [] (set out at type) (at + 1) (vlq_bytes n) says left tt tt (omega (arith, length-set out at type)))
 
 pub ruleset inventory_laws = (said-request, said-inv, asked-ids)
 

@@ -5,7 +5,7 @@
 
 ghost use Rattle.std.specs.Prelude.{true, ◌≡◌, ◌+◌, ◌*◌, ◌≤◌, length};
 ghost use mathlib.Core.List.{flat_map};
-ghost use Rattle.wire.specs.Output.{said, put, output_after, Wrote};
+ghost use Rattle.wire.specs.Output.{written_said, put, output_after, Wrote};
 ghost use Rattle.vlq.specs.Vlq.{limit, vlq_bytes};
 ghost use Rattle.frame.specs.Frame.{frame_bytes};
 ghost use Rattle.frame_write.specs.Asked.{frame_length};
@@ -31,8 +31,8 @@ pub fn write_modifier_request(
     ids: &[u32],
     buffer: &[u8],
 ) -> Result<usize, Refusal>
-    ensures value { said result ≡ message_written network 0 (write_modifier_request modifier_type ids.now buffer.now) out.old at }
-    ensures out_after { out.new ≡ output_after (said result) out.old at (message_bytes network (value_of (write_modifier_request modifier_type ids.now buffer.now))) }
+    ensures value { written_said result ≡ message_written network 0 (write_modifier_request modifier_type ids.now buffer.now) out.old at }
+    ensures out_after { out.new ≡ output_after (written_said result) out.old at (message_bytes network (value_of (write_modifier_request modifier_type ids.now buffer.now))) }
 {
     write_ids(
         out,
@@ -55,8 +55,8 @@ pub fn write_inv(
     ids: &[u32],
     buffer: &[u8],
 ) -> Result<usize, Refusal>
-    ensures value { said result ≡ message_written network 0 (write_inv modifier_type ids.now buffer.now) out.old at }
-    ensures out_after { out.new ≡ output_after (said result) out.old at (message_bytes network (value_of (write_inv modifier_type ids.now buffer.now))) }
+    ensures value { written_said result ≡ message_written network 0 (write_inv modifier_type ids.now buffer.now) out.old at }
+    ensures out_after { out.new ≡ output_after (written_said result) out.old at (message_bytes network (value_of (write_inv modifier_type ids.now buffer.now))) }
 {
     write_ids(out, at, network, INV, modifier_type, ids, buffer)
 }
@@ -72,8 +72,8 @@ fn write_ids(
     ids: &[u32],
     buffer: &[u8],
 ) -> Result<usize, Refusal>
-    ensures value { said result ≡ ids_written_for modifier_type ids.now buffer.now (length out.old) at }
-    ensures out_after { out.new ≡ output_after (said result) out.old at (frame_bytes network code (ids_bytes modifier_type (ids_of ids.now buffer.now))) }
+    ensures value { written_said result ≡ ids_written_for modifier_type ids.now buffer.now (length out.old) at }
+    ensures out_after { out.new ≡ output_after (written_said result) out.old at (frame_bytes network code (ids_bytes modifier_type (ids_of ids.now buffer.now))) }
 {
     let end = ask_ids(out.len(), at, modifier_type, ids, buffer)?;
     put_ids(out, at, network, code, modifier_type, ids, buffer);
@@ -89,7 +89,7 @@ fn ask_ids(
     ids: &[u32],
     buffer: &[u8],
 ) -> Result<usize, Refusal>
-    ensures { said result ≡ ids_written_for modifier_type ids.now buffer.now len at }
+    ensures { written_said result ≡ ids_written_for modifier_type ids.now buffer.now len at }
 {
     if len < at {
         return Err(Refusal::Outside);

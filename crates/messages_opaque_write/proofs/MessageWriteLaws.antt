@@ -1,8 +1,8 @@
 -- Laws of the writers of messages: what is said by sizes is what `message_written` says; and how Unknown is stored.
-use Rattle.std.specs.Prelude.{ℕ, ◌+◌, ◌≤◌, List, [], ◌∷◌, ◌≡◌, refl, leb, length}
-use Rattle.std.proofs.Common.{arith, sym, ◌∙◌, leb-true}
+use Rattle.std.specs.Prelude.{ℕ, ◌+◌, ◌≤◌, true, List, [], ◌∷◌, ◌≡◌, refl, leb, length}
+use Rattle.std.proofs.Common.{arith, sym, ◌∙◌, le-leb, leb-true}
 use Rattle.wire.specs.Bytes.{every}
-use Rattle.wire.specs.Output.{To, ask, asked, written}
+use Rattle.wire.specs.Output.{Written, To, ask, asked, written, output_after}
 use Rattle.wire.proofs.OutputLaws.{asked-to, written-to}
 use Rattle.vlq.specs.Vlq.{limit}
 use Rattle.types.specs.declared.Network.{Network}
@@ -43,5 +43,27 @@ framed network code body out at {e} says =
     let room : at + frame_length n ≤ length out = leb-true (at + frame_length n) (length out) h.0.1.1.1.0 in
     let size = length-frame network code body in
     written-to [] (ask 7 (leb n limit) ∷ []) out at bs tt (h.0.1.0, tt) (omega (arith, room, size)) ∙ rw size h.1
+
+-- ---- a writer that accepted
+
+pub asked-unknown : (code len at n : ℕ) {e : ℕ} {r : Written} → r ≡ unknown_written_for code len at n → r ≡ To e
+    → (n ≤ limit) × (unknown_code code ≡ true) × (at + frame_length n ≤ len)
+unfolding unknown_written_for
+asked-unknown code len at n {e} says p =
+    let h = (asked-to _ (To (at + frame_length n)) e (sym says ∙ p)).0 in
+    (leb-true n limit h.1.0, h.1.1.0, leb-true (at + frame_length n) len h.1.1.1.0)
+
+-- an accepted Unknown is written as the frame of its body
+pub stored_unknown : (network : Network) (code : ℕ) (body out : List ℕ) (at : ℕ) {e : ℕ} {r s : Written} {last : List ℕ}
+    → r ≡ unknown_written_for code (length out) at (length body) → r ≡ To e → s ≡ frame_written network code body out at
+    → last ≡ output_after s out at (frame_bytes network code body) → last ≡ output_after r out at (frame_bytes network code body)
+unfolding output_after frame_written
+stored_unknown network code body out at {e} {r} {s} {last} says p said left =
+    let h = asked-unknown code (length out) at (length body) says p in
+    let bs : List ℕ = frame_bytes network code body in
+    let q : s ≡ To (at + length bs) =
+    said
+    ∙ written-to [] (ask 7 (leb (length body) limit) ∷ []) out at bs tt (le-leb (length body) limit h.0, tt) (omega (arith, h.2, length-frame network code body)) in
+    rw p (rw q at left)
 
 pub ruleset says = (said_get_peers, said-sync_info, said-unknown, framed)

@@ -5,7 +5,7 @@
 #![tactic(auto)]
 
 ghost use Rattle.std.specs.Prelude.{◌≡◌};
-ghost use Rattle.wire.specs.Output.{said, output_after};
+ghost use Rattle.wire.specs.Output.{written_said, output_after};
 ghost use Rattle.messages.specs.Value.{unknown_code};
 ghost use Rattle.messages.specs.Writes.{write_get_peers, write_sync_info, write_unknown, value_of, message_bytes, message_written};
 ghost use Rattle.messages_opaque_write.specs.Asked.{unknown_written_for};
@@ -17,8 +17,8 @@ use wire::{MAX_BODY_SIZE, Refusal};
 // GetPeers, which has no body.
 #[tactic(auto, using(crate::proofs::MessageWriteLaws::says), unfolding(wire::specs::Output::output_after, messages::specs::Value::code_of, messages::specs::Value::body_bytes, messages::specs::Writes::value_of))]
 pub fn write_get_peers(out: &mut [u8], at: usize, network: Network) -> Result<usize, Refusal>
-    ensures value { said result ≡ message_written network 0 write_get_peers out.old at }
-    ensures out_after { out.new ≡ output_after (said result) out.old at (message_bytes network (value_of write_get_peers)) }
+    ensures value { written_said result ≡ message_written network 0 write_get_peers out.old at }
+    ensures out_after { out.new ≡ output_after (written_said result) out.old at (message_bytes network (value_of write_get_peers)) }
 {
     frame_write::close_frame(out, at, network, GET_PEERS, 0)
 }
@@ -31,8 +31,8 @@ pub fn write_sync_info(
     network: Network,
     body: &[u8],
 ) -> Result<usize, Refusal>
-    ensures value { said result ≡ message_written network 0 (write_sync_info body.now) out.old at }
-    ensures out_after { out.new ≡ output_after (said result) out.old at (message_bytes network (value_of (write_sync_info body.now))) }
+    ensures value { written_said result ≡ message_written network 0 (write_sync_info body.now) out.old at }
+    ensures out_after { out.new ≡ output_after (written_said result) out.old at (message_bytes network (value_of (write_sync_info body.now))) }
 {
     frame_write::encode(out, at, network, SYNC_INFO, body)
 }
@@ -46,8 +46,8 @@ pub fn write_unknown(
     code: u8,
     body: &[u8],
 ) -> Result<usize, Refusal>
-    ensures value { said result ≡ message_written network 0 (write_unknown code body.now) out.old at }
-    ensures out_after { out.new ≡ output_after (said result) out.old at (message_bytes network (value_of (write_unknown code body.now))) }
+    ensures value { written_said result ≡ message_written network 0 (write_unknown code body.now) out.old at }
+    ensures out_after { out.new ≡ output_after (written_said result) out.old at (message_bytes network (value_of (write_unknown code body.now))) }
 {
     ask_unknown(out.len(), at, code, body.len())?;
     frame_write::encode(out, at, network, code, body)
@@ -56,7 +56,7 @@ pub fn write_unknown(
 // What write_unknown says of an output of len bytes and a body of n bytes.
 #[tactic(auto, unfolding(wire::specs::Output::asked, frame_write::specs::Asked::frame_written_for, crate::specs::Asked::unknown_written_for))]
 fn ask_unknown(len: usize, at: usize, code: u8, n: usize) -> Result<usize, Refusal>
-    ensures { said result ≡ unknown_written_for code len at n }
+    ensures { written_said result ≡ unknown_written_for code len at n }
 {
     if len < at {
         return Err(Refusal::Outside);

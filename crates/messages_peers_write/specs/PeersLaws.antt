@@ -10,7 +10,7 @@ use borrow.Author.Tests.{le-leb, lt-leb, leb-true, leb-false}
 use Rattle.wire.specs.Bytes.{every}
 use Rattle.wire.proofs.BytesLaws.{and-true}
 use Rattle.wire.specs.Output.{Written, To, Unsized, put, ask, asked, sized, written, output_after, Wrote}
-use Rattle.wire.proofs.OutputLaws.{Accepted, wrote_length, written-accepted}
+use Rattle.wire.proofs.OutputLaws.{Accepted, length-put, wrote_length, wrote_checked, written-accepted}
 use Rattle.wire.proofs.StandingLaws.{after-put, put-behind}
 use Rattle.vlq.specs.Vlq.{limit, vlq_bytes}
 use Rattle.vlq.proofs.VlqLaws.{vlq_pos}
@@ -165,11 +165,11 @@ module _ (network : Network) (l : Tables) (out : List ℕ) (at : ℕ) {r : Writt
           }
 
       -- and then the frame was closed around both
-      pub frame_stored : {t : Written} {last : List ℕ} → t ≡ frame_written_for (length two) at (e - (at + 13))
+      pub frame_closed : {t : Written} {last : List ℕ} → t ≡ frame_written_for (length two) at (e - (at + 13))
           → last ≡ output_after t two at (frame_bytes network 2 (take (e - (at + 13)) (drop (at + 13) two)))
           → (t ≡ To e) × (last ≡ output_after t out at (frame_bytes network 2 (peers_bytes l)))
       unfolding frame_written_for asked
-      frame_stored says3 left3 =
+      frame_closed says3 left3 =
           let n = length (peers_bytes l) in
           let z : e - (at + 13) ≡ n = omega (arith, body_end) in
           let size = wrote_length body_stored in
@@ -178,3 +178,17 @@ module _ (network : Network) (l : Tables) (out : List ℕ) (at : ℕ) {r : Writt
           ∙ rw (le-leb at (length two) (omega (arith, size, yes.room)), le-leb n limit small, le-leb (at + frame_length n) (length two) (omega (arith, size, frame-room)))
           (ap To end) in
           (q, after-put out at (frame_bytes network 2 (peers_bytes l)) q (closed network 2 out at (peers_bytes l) frame-room body_stored small (rw z at says3) (rw z at left3)))
+
+    -- the same where the writer of the count was called, and said s
+    module _ {s : Written} {two : List ℕ} (says2 : s ≡ written [] [] one (at + 13) count) (left2 : two ≡ output_after s one (at + 13) count) where
+      count_wrote : Wrote one (at + 13) count (at + 13 + length count) two
+      unfolding output_after
+      count_wrote =
+          let q : one ≡ put out (at + 13 + length count) rows = rw p at left in
+          let size : length one ≡ length out = ap length q ∙ length-put out (at + 13 + length count) rows in
+          wrote_checked [] [] one (at + 13) count says2 left2 tt tt (omega (arith, yes.room))
+
+      pub frame_stored : {t : Written} {last : List ℕ} → t ≡ frame_written_for (length two) at (e - (at + 13))
+          → last ≡ output_after t two at (frame_bytes network 2 (take (e - (at + 13)) (drop (at + 13) two)))
+          → last ≡ output_after (To e) out at (frame_bytes network 2 (peers_bytes l))
+      frame_stored says3 left3 = let h = frame_closed count_wrote says3 left3 in rw h.0 at h.1

@@ -5,7 +5,7 @@
 ghost use Rattle.std.specs.Prelude.{◌≡◌, ◌+◌, ◌/◌, ◌≤◌, true, leb, ltb, length};
 ghost use Rattle.wire.specs.Bytes.{every};
 ghost use Rattle.wire.specs.Refusals.{number};
-ghost use Rattle.wire.specs.Output.{said, size_said, output_after};
+ghost use Rattle.wire.specs.Output.{written_said, size_said, output_after};
 ghost use Rattle.vlq.specs.Vlq.{vlq_bytes};
 ghost use Rattle.frame.specs.Frame.{frame_bytes};
 ghost use Rattle.handshake_entry_rows.specs.Row.{tables_of};
@@ -33,8 +33,8 @@ pub fn write_peers(
     cap: usize,
     t: Tables,
 ) -> Result<usize, Refusal>
-    ensures value { said result ≡ message_written network cap (write_peers (tables_of t.entry)) out.old at }
-    ensures out_after { out.new ≡ output_after (said result) out.old at (message_bytes network (value_of (write_peers (tables_of t.entry)))) }
+    ensures value { written_said result ≡ message_written network cap (write_peers (tables_of t.entry)) out.old at }
+    ensures out_after { out.new ≡ output_after (written_said result) out.old at (message_bytes network (value_of (write_peers (tables_of t.entry)))) }
     ensures buffer_value { every (λ b. ltb b 256) t.entry.buffer.now ≡ true }
 {
     let count = t.entry_count();
@@ -61,8 +61,8 @@ fn write_peers_frame(
     t: Tables,
 ) -> Result<usize, Refusal>
     requires { at + (13 + length (vlq_bytes (length t.entries.now / 12))) ≤ length out.old }
-    ensures value { said result ≡ rows_written (tables_of t.entry) (length (vlq_bytes (length t.entry.entries.now / 12))) out.old (at + 13 + length (vlq_bytes (length t.entry.entries.now / 12))) }
-    ensures out_after { out.new ≡ output_after (said result) out.old at (frame_bytes network 2 (peers_bytes (tables_of t.entry))) }
+    ensures value { written_said result ≡ rows_written (tables_of t.entry) (length (vlq_bytes (length t.entry.entries.now / 12))) out.old (at + 13 + length (vlq_bytes (length t.entry.entries.now / 12))) }
+    ensures out_after { out.new ≡ output_after (written_said result) out.old at (frame_bytes network 2 (peers_bytes (tables_of t.entry))) }
 {
     let count = t.entry_count() as u64;
     let start = at + HEADER_SIZE;

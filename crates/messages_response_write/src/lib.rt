@@ -5,7 +5,7 @@
 ghost use Rattle.std.specs.Prelude.{true, ◌&&◌, ◌≡◌, ◌+◌, ◌*◌, ◌/◌, ◌≤◌, leb, length};
 ghost use mathlib.Core.List.{flat_map};
 ghost use Rattle.wire.specs.Bytes.{every};
-ghost use Rattle.wire.specs.Output.{said, put, output_after, Wrote};
+ghost use Rattle.wire.specs.Output.{written_said, put, output_after, Wrote};
 ghost use Rattle.vlq.specs.Vlq.{limit, vlq_bytes};
 ghost use Rattle.frame.specs.Frame.{frame_bytes};
 ghost use Rattle.frame_write.specs.Asked.{frame_length};
@@ -33,8 +33,8 @@ pub fn write_modifier_response(
     payloads: &[u32],
     buffer: &[u8],
 ) -> Result<usize, Refusal>
-    ensures value { said result ≡ message_written network 0 (write_modifier_response modifier_type payloads.now buffer.now) out.old at }
-    ensures out_after { out.new ≡ output_after (said result) out.old at (message_bytes network (value_of (write_modifier_response modifier_type payloads.now buffer.now))) }
+    ensures value { written_said result ≡ message_written network 0 (write_modifier_response modifier_type payloads.now buffer.now) out.old at }
+    ensures out_after { out.new ≡ output_after (written_said result) out.old at (message_bytes network (value_of (write_modifier_response modifier_type payloads.now buffer.now))) }
 {
     let end = ask_response(out.len(), at, modifier_type, payloads, buffer)?;
     put_response(out, at, network, modifier_type, payloads, buffer);
@@ -49,7 +49,7 @@ fn ask_response(
     payloads: &[u32],
     buffer: &[u8],
 ) -> Result<usize, Refusal>
-    ensures { said result ≡ response_written_for modifier_type payloads.now buffer.now len at }
+    ensures { written_said result ≡ response_written_for modifier_type payloads.now buffer.now len at }
 {
     if payloads.len() % PAYLOAD_ROW_SIZE != 0 {
         return Err(Refusal::BadTable);

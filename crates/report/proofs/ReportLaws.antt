@@ -1,5 +1,7 @@
 -- One step of the walk is one line: of the text, of a block, and of the lines to come.
-use Rattle.std.specs.Prelude.{◌≡◌, ℕ, zero, suc, ◌+◌, ◌-◌, ◌<◌, ◌≤◌, Bool, true, false, cond, List, [], ◌∷◌, ◌++◌, length, ◌==◌, nat_le, Option, Some, None}
+use Rattle.std.specs.Prelude.{◌≡◌, ℕ, zero, suc, ◌+◌, ◌-◌, ◌<◌, ◌≤◌, Bool, true, false, cond, List, [], ◌∷◌, ◌++◌, length, ◌==◌, nat_le}
+use Rattle.std.specs.declared.ops.ControlFlow.{ControlFlow}
+use Rattle.std.specs.declared.ops.ControlFlow.TheVariants.{Continue, Break}
 use Rattle.std.proofs.Common.{arith, sym, subst, ◌∙◌}
 use mathlib.Core.List.{flat_map, append_assoc, append-nil}
 use Rattle.std.proofs.Math.Logic.{⊎_elim}
@@ -21,7 +23,7 @@ use Rattle.walk.proofs.SessionLaws.{session_readers}
 use Rattle.walk_read.specs.Steps.{stream_place, step_of, item_of}
 use Rattle.walk_read.specs.declared.StepRead.{StepRead}
 use Rattle.report_lines.specs.StepLines.{line_of, handshake_item_line, message_of_line}
-use Rattle.report_lines.specs.NextLines.{place_after}
+use Rattle.report_lines.specs.NextLines.{step_next}
 use Rattle.report.specs.Report.{content_line, item_line, ending_line, reading_text, report_text, Block, line_then, block_of, reading_from, block_at}
 
 -- ---- the verdict of an item is that on its fields
@@ -85,10 +87,11 @@ module _ (network : Network) where
   content_line_lem s start end (message_fields code from (Bodies.sync_info body)) v n j = rw j
   content_line_lem s start end (message_fields code from (Bodies.unknown body)) v n j = rw j
 
-  item-next : (s : List ℕ) (start end : ℕ) (f : Fields) (v : Verdict) → place_after (item_of network s start end f v) ≡ Some (stream_place end)
+  item-next : (s : List ℕ) (start end : ℕ) (f : Fields) (v : Verdict) (at : StreamPlace)
+      → step_next (item_of network s start end f v) at ≡ Continue (stream_place end)
   unfolding item_of
-  item-next s start end (handshake_fields h) v = refl
-  item-next s start end (message_fields code from m) v = refl
+  item-next s start end (handshake_fields h) v at = refl
+  item-next s start end (message_fields code from m) v at = refl
 
 -- ---- one step, one line
 
@@ -97,23 +100,23 @@ module _ (network : Network) (cap : ℕ) (s : List ℕ) where
   From at = reading_from network cap s at
 
   -- the lines to come, their text, and what is laid of them in a room, where a step follows at a place
-  abbrev pub lines_from : Option StreamPlace → ℕ
-  lines_from (Some at) = length (From at.0).items + 1
-  lines_from None = 0
+  abbrev pub lines_from : ControlFlow StreamPlace StreamPlace → ℕ
+  lines_from (Continue at) = length (From at.0).items + 1
+  lines_from (Break at) = 0
 
-  abbrev pub text_from : Option StreamPlace → List ℕ
-  text_from (Some at) = reading_text (length s) (From at.0)
-  text_from None = []
+  abbrev pub text_from : ControlFlow StreamPlace StreamPlace → List ℕ
+  text_from (Continue at) = reading_text (length s) (From at.0)
+  text_from (Break at) = []
 
-  abbrev pub block_from : ℕ → Option StreamPlace → Block
-  block_from room (Some at) = block_at network cap s room at.0
-  block_from room None = record { text = []; at = None }
+  abbrev pub block_from : ℕ → ControlFlow StreamPlace StreamPlace → Block
+  block_from room (Continue at) = block_at network cap s room at.0
+  block_from room (Break at) = record { text = []; at = Break at }
 
-  abbrev pub here : ℕ → Option StreamPlace
-  here at = Some (stream_place at)
+  abbrev pub here : ℕ → ControlFlow StreamPlace StreamPlace
+  here at = Continue (stream_place at)
 
   -- a step has one line: of the lines to come, of their text, and of a block with room for it
-  pub record OneLine (at : ℕ) (line : List ℕ) (next : Option StreamPlace) : Type 0 where
+  pub record OneLine (at : ℕ) (line : List ℕ) (next : ControlFlow StreamPlace StreamPlace) : Type 0 where
     pub counted : lines_from (here at) ≡ suc (lines_from next)
     pub told : text_from (here at) ≡ line ++ text_from next
     pub laid : (room : ℕ) → 192 ≤ room → block_at network cap s room at ≡ line_then line (block_from (room - length line) next)
@@ -138,7 +141,7 @@ module _ (network : Network) (cap : ℕ) (s : List ℕ) where
       }
 
   last_one : (at : ℕ) (e : Ending) → From at ≡ record { items = []; ending = e }
-      → OneLine at (ending_line (length s) e) None
+      → OneLine at (ending_line (length s) e) (Break (stream_place at))
   unfolding block_at block_of flat_map
   last_one at e q =
       record {
@@ -149,7 +152,7 @@ module _ (network : Network) (cap : ℕ) (s : List ℕ) where
 
   -- what the code gives of a step
   abbrev Told : ℕ → StepRead → Type 0
-  Told at r = OneLine at (line_of r (length s)) (place_after r)
+  Told at r = OneLine at (line_of r (length s)) (step_next r (stream_place at))
 
   pub one_line : (at : ℕ) → Told at (step_of network s (session_step network cap s at))
   unfolding step_of line_of ending_line onward session_step
@@ -163,7 +166,7 @@ module _ (network : Network) (cap : ℕ) (s : List ℕ) where
       an_item i q =
           let j = subst (λ (x : Walk.Step Content). StepJudged network x) q (step-judged network cap s at) in
           let e = content_line_lem network s i.start i.end i.holds.fields i.holds.verdict (length s) j in
-          rw (item-next network s i.start i.end i.holds.fields i.holds.verdict, e)
+          rw (item-next network s i.start i.end i.holds.fields i.holds.verdict (stream_place at), e)
           (item-one at i (whole q))
 
       go : (x : Walk.Step Content) → session_step network cap s at ≡ x → Told at (step_of network s x)
@@ -185,15 +188,15 @@ module _ (network : Network) (cap : ℕ) (s : List ℕ) where
     pub fewer : lines_from b.at ≤ lines_from (here at)
     pub told : text_from (here at) ≡ b.text ++ text_from b.at
 
-  line-laid : {at : ℕ} {line : List ℕ} (next : Option StreamPlace) → OneLine at line next → (room : ℕ)
-      → ((end : StreamPlace) → next ≡ Some end → Laid end.0 (block_at network cap s room end.0)) → Laid at (line_then line (block_from room next))
-  line-laid {at} {line} (Some end) o room rest =
+  line-laid : {at : ℕ} {line : List ℕ} (next : ControlFlow StreamPlace StreamPlace) → OneLine at line next → (room : ℕ)
+      → ((end : StreamPlace) → next ≡ Continue end → Laid end.0 (block_at network cap s room end.0)) → Laid at (line_then line (block_from room next))
+  line-laid {at} {line} (Continue end) o room rest =
       let l = rest end refl in
       record {
         fewer = omega (arith, l.fewer, o.counted);
         told = o.told ∙ ap (λ (t : List ℕ). line ++ t) l.told ∙ sym (append_assoc line _ _);
       }
-  line-laid {at} {line} None o room rest =
+  line-laid {at} {line} (Break end) o room rest =
       record { fewer = omega arith; told = o.told ∙ sym (append-nil (line ++ [])) }
 
   full : (n room at : ℕ) (is : List (Item Content)) (e : Ending) → room < 192
@@ -207,12 +210,12 @@ module _ (network : Network) (cap : ℕ) (s : List ℕ) where
   unfolding block_at
   block-full room at h = full (length s) room at (From at).items (From at).ending h
 
-  one_fewer : {at c : ℕ} {line : List ℕ} (next : Option StreamPlace) (end : StreamPlace) → OneLine at line next → next ≡ Some end
-      → lines_from (here at) ≤ suc c → lines_from (Some end) ≤ c
+  one_fewer : {at c : ℕ} {line : List ℕ} (next : ControlFlow StreamPlace StreamPlace) (end : StreamPlace) → OneLine at line next → next ≡ Continue end
+      → lines_from (here at) ≤ suc c → lines_from (Continue end) ≤ c
   one_fewer next end o m h = let k = rw m at o.counted in omega (arith, k)
 
-  lay_one : {at : ℕ} {line : List ℕ} {next : Option StreamPlace} (room : ℕ) → 192 ≤ room → OneLine at line next
-      → ((end : StreamPlace) → next ≡ Some end → Laid end.0 (block_at network cap s (room - length line) end.0)) → Laid at (block_at network cap s room at)
+  lay_one : {at : ℕ} {line : List ℕ} {next : ControlFlow StreamPlace StreamPlace} (room : ℕ) → 192 ≤ room → OneLine at line next
+      → ((end : StreamPlace) → next ≡ Continue end → Laid end.0 (block_at network cap s (room - length line) end.0)) → Laid at (block_at network cap s room at)
   lay_one {line = line} {next = next} room g o rest = rw (o.laid room g) (line-laid next o (room - length line) rest)
 
   lays_in : (c room at : ℕ) → lines_from (here at) ≤ c → Laid at (block_at network cap s room at)
@@ -230,9 +233,9 @@ module _ (network : Network) (cap : ℕ) (s : List ℕ) where
   pub lays-some : (room at : ℕ) → 192 ≤ room → lines_from (block_at network cap s room at).at < lines_from (here at)
   lays-some room at g = some (one_line at)
     where
-      rest : {line : List ℕ} (next : Option StreamPlace) → OneLine at line next → (r : ℕ) → lines_from (block_from r next).at < lines_from (here at)
-      rest (Some end) o r = omega (arith, (lays r end.0).fewer, o.counted)
-      rest None o r = omega (arith, o.counted)
+      rest : {line : List ℕ} (next : ControlFlow StreamPlace StreamPlace) → OneLine at line next → (r : ℕ) → lines_from (block_from r next).at < lines_from (here at)
+      rest (Continue end) o r = omega (arith, (lays r end.0).fewer, o.counted)
+      rest (Break end) o r = omega (arith, o.counted)
 
-      some : {line : List ℕ} {next : Option StreamPlace} → OneLine at line next → lines_from (block_at network cap s room at).at < lines_from (here at)
+      some : {line : List ℕ} {next : ControlFlow StreamPlace StreamPlace} → OneLine at line next → lines_from (block_at network cap s room at).at < lines_from (here at)
       some {line = line} {next = next} o = rw (o.laid room g) (rest next o (room - length line))

@@ -1,5 +1,7 @@
 -- The theorems, from the laws of the report.
-use Rattle.std.specs.Prelude.{◌≡◌, ℕ, zero, suc, ◌≤◌, Bool, true, false, cond, Option, Some, None, List, [], ◌∷◌, ◌++◌, length, ◌≢◌, nat_lt, slice_index, refl}
+use Rattle.std.specs.Prelude.{◌≡◌, ℕ, zero, suc, ◌≤◌, Bool, true, false, cond, List, [], ◌∷◌, ◌++◌, length, ◌≢◌, nat_lt, slice_index, refl}
+use Rattle.std.specs.declared.ops.ControlFlow.{ControlFlow}
+use Rattle.std.specs.declared.ops.ControlFlow.TheVariants.{Continue, Break}
 use Rattle.std.proofs.Common.{arith, sym, ap, ◌∙◌}
 use mathlib.Core.List.{flat_map, append_assoc, append-nil}
 use Rattle.types.specs.declared.Network.{Network}
@@ -22,7 +24,7 @@ module _ (network : Network) (cap : ℕ) (s : List ℕ) where
   lines_text {at} (Theorems.more next m rest) =
       let o = rw m at (one_line network cap s at) in
       ap (λ (t : List ℕ). line_at network cap s at ++ t) (lines_text rest) ∙ sym o.told
-  lines_text {at} (Theorems.last m) =
+  lines_text {at} (Theorems.last place m) =
       let o = rw m at (one_line network cap s at) in
       sym (append-nil (line_at network cap s at)) ∙ sym o.told
 
@@ -30,12 +32,12 @@ module _ (network : Network) (cap : ℕ) (s : List ℕ) where
   blocks_text {at} (Theorems.more room next m rest) =
       let b : Block = block_at network cap s room at in
       ap (λ (t : List ℕ). b.text ++ t) (blocks_text rest)
-      ∙ ap (λ (x : Option StreamPlace). b.text ++ text_from network cap s x) (sym m)
+      ∙ ap (λ (x : ControlFlow StreamPlace StreamPlace). b.text ++ text_from network cap s x) (sym m)
       ∙ sym (lays network cap s room at).told
-  blocks_text {at} (Theorems.last room m) =
+  blocks_text {at} (Theorems.last room place m) =
       let b : Block = block_at network cap s room at in
       sym (append-nil b.text)
-      ∙ ap (λ (x : Option StreamPlace). b.text ++ text_from network cap s x) (sym m)
+      ∙ ap (λ (x : ControlFlow StreamPlace StreamPlace). b.text ++ text_from network cap s x) (sym m)
       ∙ sym (lays network cap s room at).told
 
   text_lines : (c at : ℕ) → lines_from network cap s (here network cap s at) ≤ c → LinesFrom network cap s at (text_from network cap s (here network cap s at))
@@ -43,10 +45,10 @@ module _ (network : Network) (cap : ℕ) (s : List ℕ) where
   text_lines (suc c) at h = go (text_lines c) (next_at network cap s at).at refl (one_line network cap s at)
     where
       go : ((end : ℕ) → lines_from network cap s (here network cap s end) ≤ c → LinesFrom network cap s end (text_from network cap s (here network cap s end)))
-          → (next : Option StreamPlace) → (next_at network cap s at).at ≡ next → OneLine network cap s at (line_at network cap s at) next
+          → (next : ControlFlow StreamPlace StreamPlace) → (next_at network cap s at).at ≡ next → OneLine network cap s at (line_at network cap s at) next
           → LinesFrom network cap s at (text_from network cap s (here network cap s at))
-      go rest (Some next) m o = rw o.told (Theorems.more next m (rest next.0 (omega (arith, o.counted))))
-      go rest None m o = rw (o.told, append-nil) (Theorems.last m)
+      go rest (Continue next) m o = rw o.told (Theorems.more next m (rest next.0 (omega (arith, o.counted))))
+      go rest (Break place) m o = rw (o.told, append-nil) (Theorems.last place m)
 
 module _ (network : Network) (cap : ℕ) where
   pub lines_are_report : LinesAreReport network cap

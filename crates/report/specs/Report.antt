@@ -1,6 +1,8 @@
 -- The report of a session (document 01, "At the edges"): the line of each item of its reading, then the line of how it ends; and what the program
 -- `session` prints. Then what `put_lines` gives of it.
-use Rattle.std.specs.Prelude.{ℕ, ◌-◌, cond, List, [], ◌∷◌, ◌++◌, length, take, nat_le, nat_lt, Option, Some, None, Result, Ok, Err}
+use Rattle.std.specs.Prelude.{ℕ, ◌-◌, cond, List, [], ◌∷◌, ◌++◌, length, take, nat_le, nat_lt, Result, Ok, Err}
+use Rattle.std.specs.declared.ops.ControlFlow.{ControlFlow}
+use Rattle.std.specs.declared.ops.ControlFlow.TheVariants.{Continue, Break}
 use mathlib.Core.List.{flat_map}
 use Rattle.types.specs.declared.Network.{Network}
 use Rattle.types.specs.declared.Network.TheVariants.{Mainnet}
@@ -53,10 +55,10 @@ input_text (Err e) buf = unread
 
 -- ---- lines of it in an output
 
--- the bytes of lines, and the place of the next step, if there is one
+-- the bytes of lines, and the place of the next step, or of the last one where none follows
 pub record Block : Type 0 where
   pub text : List ℕ
-  pub at : Option StreamPlace
+  pub at : ControlFlow StreamPlace StreamPlace
 
 abbrev pub line_then : List ℕ → Block → Block
 line_then line b = record { text = line ++ b.text; at = b.at }
@@ -64,9 +66,9 @@ line_then line b = record { text = line ++ b.text; at = b.at }
 -- lines of the items and the ending of a session of n bytes, from the place at on: each where room for a longest one, 192 bytes, is left
 unfoldable pub block_of : ℕ → ℕ → ℕ → List (Item Content) → Ending → Block
 block_of n room at [] e =
-    cond (nat_le 192 room) (record { text = ending_line n e; at = None }) (record { text = []; at = Some (stream_place at) })
+    cond (nat_le 192 room) (record { text = ending_line n e; at = Break (stream_place at) }) (record { text = []; at = Continue (stream_place at) })
 block_of n room at (i ∷ is) e =
-    cond (nat_le 192 room) (line_then (item_line i) (block_of n (room - length (item_line i)) i.end is e)) (record { text = []; at = Some (stream_place at) })
+    cond (nat_le 192 room) (line_then (item_line i) (block_of n (room - length (item_line i)) i.end is e)) (record { text = []; at = Continue (stream_place at) })
 
 module _ (network : Network) (cap : ℕ) (s : List ℕ) where
   -- the reading from a place on

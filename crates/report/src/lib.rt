@@ -8,6 +8,7 @@ ghost use Rattle.report.specs.Report.{block_at, block_next, report_text, session
 
 use report_lines::Next;
 use std::io::{Read, Result};
+use std::ops::ControlFlow;
 use types::{Network, StreamPlace};
 use wire_part_write::write_part;
 
@@ -53,13 +54,15 @@ pub fn print_session(s: &[u8]) -> u64
     print_report(s, Network::Mainnet, CAP)
 }
 
-// Prints the report of a session, block by block, and gives how many bytes it has, modulo 2^64.
+// Prints the report of a session, block by block, and gives how many bytes it has, modulo 2^64. A function of its own,
+// so that its block lies on the stack where there is a session.
+#[inline(never)]
 fn print_report(s: &[u8], network: Network, cap: usize) -> u64
     ensures { result ≡ length (report_text network cap s.now) % 2 ^ 64 }
 {
-    let mut at = Some(StreamPlace(0));
+    let mut at = ControlFlow::Continue(StreamPlace(0));
     let mut printed = 0u64;
-    while let Some(place) = at {
+    while let ControlFlow::Continue(place) = at {
         let mut block = [0u8; 65536];
         let lines = put_lines(&mut block, s, network, cap, place);
         io::write_all(STDOUT, &block[..lines.len]);
@@ -76,15 +79,23 @@ pub fn put_lines(out: &mut [u8], s: &[u8], network: Network, cap: usize, at: Str
     ensures prefix_len { IsPrefixLen result.len out.new }
 {
     let mut len = 0;
-    let mut at = Some(at);
-    while let Some(place) = at {
-        if out.len() - len < 192 {
-            break;
-        }
+    let mut place = at;
+    while 192 <= out.len() - len {
         let mut line = [0u8; 192];
         let next = report_lines::next_line(&mut line, s, network, cap, place);
         len = write_part(out, len, &line[..next.len]).unwrap();
-        at = next.at;
+        match next.at {
+            ControlFlow::Continue(after) => place = after,
+            ControlFlow::Break(last) => {
+                return Next {
+                    len,
+                    at: ControlFlow::Break(last),
+                };
+            }
+        }
     }
-    Next { len, at }
+    Next {
+        len,
+        at: ControlFlow::Continue(place),
+    }
 }

@@ -7,14 +7,15 @@ ghost use Rattle.report_lines.specs.NextLines.{line_at, next_at};
 ghost use Rattle.report_lines.specs.StepLines.{handshake_item_line, message_item_line, stop_item_line, line_of};
 
 use messages_read::Message;
+use std::ops::ControlFlow;
 use types::{Network, StreamPlace};
 use walk_read::{HandshakeItem, Layer, MessageItem, StepRead, Stop};
 
-// Lines of the report: how many bytes they take, and the place of the next step, if there is one.
+// Lines of the report: how many bytes they take, and the place of the next step, or of the last one where none follows.
 #[derive(Clone, Copy)]
 pub struct Next {
     pub len: usize,
-    pub at: Option<StreamPlace>,
+    pub at: ControlFlow<StreamPlace, StreamPlace>,
 }
 
 // The line of the step at a place of a session. A place past the session's length has no line.
@@ -32,9 +33,9 @@ pub fn next_line(
     let step = walk_read::step(s, network, cap, at);
     let len = step_line(line, step, s.len());
     let at = match step {
-        StepRead::Handshake(i) => Some(i.end),
-        StepRead::Message(i) => Some(i.end),
-        _ => None,
+        StepRead::Handshake(i) => ControlFlow::Continue(i.end),
+        StepRead::Message(i) => ControlFlow::Continue(i.end),
+        _ => ControlFlow::Break(at),
     };
     Next { len, at }
 }

@@ -1,18 +1,34 @@
 -- Laws of short strings: the cut law, where the bytes stand, that what is written is read back, and the string's answers from tests.
-use Rattle.std.specs.Prelude.{ℕ, ◌+◌, ◌-◌, ◌≤◌, Bool, List, [], ◌∷◌, ◌≡◌, T, length, take, drop}
+use Rattle.std.specs.Prelude.{ℕ, ◌+◌, ◌-◌, ◌≤◌, ◌<◌, Bool, cond, List, [], ◌∷◌, ◌≡◌, T, length, take, drop}
 use native.Mathlib.Omega.{arith}
 use Rattle.std.proofs.Math.Bool.{true, false}
 use Rattle.std.proofs.Common.{ap, sym, ◌∙◌}
 use Rattle.wire.proofs.GivesLaws.{Gives, gives_then, gives-guard, gives-byte, gives_part}
 use Rattle.wire.specs.Reader.{got, refused, part, part_of, map_answer}
 use Rattle.wire.specs.declared.Part.{Part}
-use Rattle.wire.proofs.ReaderLaws.{part_at, map-got, map-refused}
+use Rattle.wire.proofs.ReaderLaws.{part-got, part_missing, part-outside, length_part, part_at, map-got, map-refused}
 use Rattle.wire.specs.Stable.{Stable}
 use Rattle.wire.proofs.StableLaws.{stable_then, stable_guard, stable_byte, stable_part}
 use Rattle.wire.specs.ReadsBack.{ReadsBack, Placed}
 use Rattle.wire.proofs.ReadsBackLaws.{bytes_of, reads_then, reads-last, reads-guard, reads_byte, reads-part}
 use Rattle.vlq_utf8.specs.Utf8.{utf8}
 use Rattle.vlq.specs.ShortString.{string, short_string, short_string_bytes}
+
+module _ (n : ℕ) (s : List ℕ) (at : ℕ) where
+  -- the code's part ends at at + n, so its length is written at + n - at
+  pub string-got : (b : Bool) → at + n ≤ length s → utf8 (take (at + n - at) (drop at s)) ≡ b
+      → map_answer part_of (string n s at) ≡ cond b (got (record { start = at; len = n }) (at + n)) (refused 4)
+  unfolding string map_answer
+  string-got true h e = let z : at + n - at ≡ n = omega arith in rw (part-got n s at h, rw z at e, length_part n s at h)
+  string-got false h e = let z : at + n - at ≡ n = omega arith in rw (part-got n s at h, rw z at e)
+
+  pub string_missing : at ≤ length s → length s < at + n → map_answer part_of (string n s at) ≡ refused 1
+  unfolding string map_answer
+  string_missing h g = rw (part_missing n s at h g)
+
+  pub string-outside : length s < at → map_answer part_of (string n s at) ≡ refused 12
+  unfolding string map_answer
+  string-outside h = rw (part-outside n s at h)
 
 -- a part as the code reads it
 pub record CodePart (n : ℕ) (s : List ℕ) (at : ℕ) (p : Part) (next : ℕ) : Type 0 where
@@ -33,9 +49,9 @@ module _ (n : ℕ) (s : List ℕ) (at : ℕ) {p : Part} {next : ℕ} (e : got p 
       rw (z, code_part.start)
 
   -- the string's answers, once its part is read
-  pub string-got : utf8 (take (next - p.start) (drop p.start s)) ≡ true → got p next ≡ map_answer part_of (string n s at)
+  pub string-read : utf8 (take (next - p.start) (drop p.start s)) ≡ true → got p next ≡ map_answer part_of (string n s at)
   unfolding string map_answer
-  string-got u =
+  string-read u =
       let m = map-got part_of (sym e) in
       let w : utf8 m.0.bytes ≡ true = ap utf8 (part_at n s at m.1).bytes ∙ sym same_string ∙ u in
       rw (m.1, w) (ap (λ (p : Part). got p next) (sym m.2))

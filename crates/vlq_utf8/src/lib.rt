@@ -1,9 +1,9 @@
 // UTF-8 (RFC 3629), as `String::from_utf8` tests it.
 #![tactic(auto)]
 
-ghost use Rattle.std.specs.Prelude.{◌≡◌, ◌≤◌, length, IsTrue};
+ghost use Rattle.std.specs.Prelude.{◌≡◌, ◌≤◌, false, length, drop, IsTrue, MatchOption};
 ghost use Rattle.std.specs.Str.{IsAscii};
-ghost use Rattle.vlq_utf8.specs.Utf8.{lead_of, utf8};
+ghost use Rattle.vlq_utf8.specs.Utf8.{lead_of, utf8_from, utf8};
 
 // What a lead byte says: how many followers it has, and the bounds of the first.
 #[derive(Clone, Copy)]
@@ -43,8 +43,8 @@ pub fn is_utf8(s: &[u8]) -> bool
     is_short_ascii(s) || is_ascii_or_sequence(s)
 }
 
-// True only where s has fewer than eight bytes and none is above 0x7F. The slice's own test takes twice as long on so
-// few.
+// True only where s has sixteen bytes at most and none is above 0x7F. The slice's own test takes twice as long on so
+// few. By four or eight at a time, if there are as many, the last over the first.
 fn is_short_ascii(s: &[u8]) -> bool
     ensures { IsTrue result → IsAscii s.now }
 {
@@ -52,7 +52,10 @@ fn is_short_ascii(s: &[u8]) -> bool
     if n < 4 {
         return non_ascii(s) == 0;
     }
-    n < 8 && non_ascii(&s[..4]) + non_ascii(&s[n - 4..]) == 0
+    if n < 8 {
+        return non_ascii(&s[..4]) + non_ascii(&s[n - 4..]) == 0;
+    }
+    n <= 16 && non_ascii(&s[..8]) + non_ascii(&s[n - 8..]) == 0
 }
 
 // How many of the few bytes of s are above 0x7F.
@@ -72,35 +75,59 @@ fn non_ascii(s: &[u8]) -> u8
 fn is_ascii_or_sequence(s: &[u8]) -> bool
     ensures { result ≡ utf8 s.now }
 {
-    s.is_ascii() || is_sequence(s)
+    is_long_ascii(s) || is_sequence(s)
 }
 
-// Is s a sequence of lead bytes with their followers?
+// True only where s has more than sixteen bytes and none is above 0x7F. Where one of the first eight is, the slice's own
+// test is not begun.
+fn is_long_ascii(s: &[u8]) -> bool
+    ensures { IsTrue result → IsAscii s.now }
+{
+    16 < s.len() && non_ascii(&s[..8]) == 0 && s.is_ascii()
+}
+
+// Is s a sequence of lead bytes with their followers? By places, since a turn takes all bytes of a character: byte by
+// byte, with what is still to come kept between the turns, it takes half as long again.
+#[inline(never)]
 fn is_sequence(s: &[u8]) -> bool
     ensures { result ≡ utf8 s.now }
 {
-    let mut left = 0;
-    let mut low = 0x80;
-    let mut high = 0xBF;
-    for &b in s {
-        if left == 0 {
-            // a byte up to 0x7F stands alone
-            if 0x7F < b {
-                let Some(lead) = lead_of(b) else {
-                    return false;
-                };
-                left = lead.followers;
-                low = lead.low;
-                high = lead.high;
-            }
-        } else {
-            if b < low || high < b {
+    let mut at = 0;
+    while at < s.len() {
+        let b = s[at];
+        at += 1;
+        // a byte up to 0x7F stands alone
+        if 0x7F < b {
+            let Some(lead) = lead_of(b) else {
                 return false;
-            }
-            left -= 1;
-            low = 0x80;
-            high = 0xBF;
+            };
+            let Some(next) = after_followers(s, at, lead) else {
+                return false;
+            };
+            at = next;
         }
     }
-    left == 0
+    true
+}
+
+// Where the followers of a lead byte end, which begin at a place; None where they are not all there.
+fn after_followers(s: &[u8], at: usize, lead: Lead) -> Option<usize>
+    requires { at ≤ length s.now }
+    ensures { MatchOption result (utf8_from (drop at s.now) lead.followers lead.low lead.high ≡ false) (λ next. (at ≤ next) × (next ≤ length s.now) × (utf8_from (drop at s.now) lead.followers lead.low lead.high ≡ utf8 (drop next s.now))) }
+{
+    let mut next = at;
+    let mut left = lead.followers;
+    let mut low = lead.low;
+    let mut high = lead.high;
+    while 0 < left && next < s.len() {
+        let b = s[next];
+        if b < low || high < b {
+            return None;
+        }
+        next += 1;
+        left -= 1;
+        low = 0x80;
+        high = 0xBF;
+    }
+    if left == 0 { Some(next) } else { None }
 }

@@ -3,7 +3,7 @@
 #![tactic(auto)]
 
 ghost use Rattle.std.specs.Prelude.{◌≡◌, [], ◌+◌, ◌≤◌, length};
-ghost use Rattle.wire.specs.Output.{said, written, output_after, Wrote};
+ghost use Rattle.wire.specs.Output.{written_said, written, output_after, Wrote};
 ghost use Rattle.vlq.specs.Vlq.{vlq_bytes};
 ghost use Rattle.vlq.specs.ShortString.{max_short_string, short_string_bytes};
 ghost use Rattle.wire_output.specs.Asked.{written_for};
@@ -30,8 +30,8 @@ pub fn vlq_len(v: u64) -> usize
 // The shortest VLQ of value. No VLQ has more than ten bytes.
 #[tactic(auto, unfolding(wire::specs::Output::asked, wire::specs::Output::written, wire::specs::Output::output_after), using(vlq::proofs::VlqLaws::vlq_ten))]
 pub fn write_vlq(out: &mut [u8], at: usize, value: u64) -> Result<usize, Refusal>
-    ensures value { said result ≡ written [] [] out.old at (vlq_bytes value) }
-    ensures out_after { out.new ≡ output_after (said result) out.old at (vlq_bytes value) }
+    ensures value { written_said result ≡ written [] [] out.old at (vlq_bytes value) }
+    ensures out_after { out.new ≡ output_after (written_said result) out.old at (vlq_bytes value) }
 {
     if has_room(out.len(), at, 10) {
         return Ok(put_vlq(out, at, value));
@@ -44,8 +44,8 @@ pub fn write_vlq(out: &mut [u8], at: usize, value: u64) -> Result<usize, Refusal
 // A length byte, then the bytes of s, which are UTF-8.
 #[tactic(auto, unfolding(wire::specs::Output::asked, wire::specs::Output::written, wire::specs::Output::output_after))]
 pub fn write_short_string(out: &mut [u8], at: usize, s: &[u8]) -> Result<usize, Refusal>
-    ensures value { said result ≡ written [] (short_string_asked s.now) out.old at (short_string_bytes s.now) }
-    ensures out_after { out.new ≡ output_after (said result) out.old at (short_string_bytes s.now) }
+    ensures value { written_said result ≡ written [] (short_string_asked s.now) out.old at (short_string_bytes s.now) }
+    ensures out_after { out.new ≡ output_after (written_said result) out.old at (short_string_bytes s.now) }
 {
     let end = ask_short_string(out.len(), at, s)?;
     put_short_string(out, at, s);
@@ -55,7 +55,7 @@ pub fn write_short_string(out: &mut [u8], at: usize, s: &[u8]) -> Result<usize, 
 // What write_short_string says of an output of len bytes.
 #[tactic(auto, unfolding(wire::specs::Output::asked))]
 fn ask_short_string(len: usize, at: usize, s: &[u8]) -> Result<usize, Refusal>
-    ensures { said result ≡ written_for [] (short_string_asked s.now) len at (length (short_string_bytes s.now)) }
+    ensures { written_said result ≡ written_for [] (short_string_asked s.now) len at (length (short_string_bytes s.now)) }
 {
     if len < at {
         return Err(Refusal::Outside);

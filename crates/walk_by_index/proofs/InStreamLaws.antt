@@ -3,10 +3,12 @@
 use Rattle.std.specs.Prelude.{ℕ, ◌+◌, ◌^◌, ◌≤◌, ◌<◌, Bool, List, ◌≡◌, ltb, leb, get_or, take, drop}
 use native.Mathlib.Omega.{arith}
 use Rattle.std.proofs.Math.Bool.{true, false, cond}
-use Rattle.std.proofs.Common.{Ok, sym, ap, ◌∙◌, length-take, length-drop, drop-drop}
+use Rattle.std.proofs.Common.{Ok, Err, sym, ap, ◌∙◌, length-take, length-drop, drop-drop}
 use Rattle.std.proofs.Math.ListN.{length}
 use borrow.Author.Tests.{le-leb, lt-ltb, leb-true}
 use Rattle.wire.specs.Reader.{Answer, got, refused, Reader, bind, guard, place, byte, Segment, part, list_of, map_answer}
+use Rattle.wire.specs.Refusals.{number}
+use Rattle.wire.specs.declared.Refusal.{Refusal}
 use Rattle.wire.proofs.ReaderLaws.{map-value, map-got, Taken, field-taken}
 use Rattle.wire.proofs.AnswerLaws.{no_answer, value_of, bind-got}
 use Rattle.wire.proofs.GivesLaws.{Gives, PartGiven, gives_then, gives-any, gives-pure, gives_part}
@@ -36,9 +38,21 @@ use Rattle.walk_by_index.specs.InStream.{is_inside, in_stream, stream_entry, str
 -- ---- `from_body` and `id_to_stream`, case by case
 
 module _ {A B : Type 0} (f : A → ℕ → Answer B) (s : List ℕ) (body : StreamPart) where
+  pub from-outside : (answer : Answer A) → is_inside s body ≡ false → refused 12 ≡ from_body f s body answer
+  unfolding from_body
+  from-outside answer out = rw out
+
   pub from-got : (answer : Answer A) {a : A} {next : ℕ} → is_inside s body ≡ true → answer ≡ got a next → f a next ≡ from_body f s body answer
   unfolding from_body
   from-got answer inside is = rw (inside, is)
+
+  pub from-refused : (answer : Answer A) {m : ℕ} → is_inside s body ≡ true → answer ≡ refused m → refused m ≡ from_body f s body answer
+  unfolding from_body
+  from-refused answer inside is = rw (inside, is)
+
+pub id-refused : (body : StreamPart) (at next : ℕ) {m : Refusal} → in_stream body at ≡ Err m → refused (number m) ≡ id_to_stream body at next
+unfolding id_to_stream
+id-refused body at next is = rw is
 
 pub inside-within : (s : List ℕ) (part : StreamPart) → is_inside s part ≡ true → part.start.0 + part.len ≤ length s
 unfolding is_inside

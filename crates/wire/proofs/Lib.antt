@@ -11,3 +11,4 @@ pub mod ReaderLaws
 pub mod ReadsBackLaws
 pub mod StableLaws
 pub mod StandingLaws
+pub mod UpToLaws

@@ -6,3 +6,4 @@ pub mod Output
 pub mod Earliest
 pub mod ReadsBack
 pub mod Numbers
+pub mod UpTo

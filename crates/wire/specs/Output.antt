@@ -14,15 +14,21 @@ pub data Size : Type 0 where
   Bytes : ℕ → Size
   Unsized : ℕ → Size
 
--- what the answer of a writer means
-abbrev pub said : Result ℕ Refusal → Written
-said (Ok end) = To end
-said (Err m) = Refused (number m)
+-- what the answer of a writer means, its refusals having these numbers
+abbrev pub written_said_by : {M : Type 0} → (M → ℕ) → Result ℕ M → Written
+written_said_by number_of (Ok end) = To end
+written_said_by number_of (Err m) = Refused (number_of m)
+
+abbrev pub written_said : Result ℕ Refusal → Written
+written_said = written_said_by number
 
 -- what is said of a value by code
+abbrev pub size_said_by : {M : Type 0} → (M → ℕ) → Result ℕ M → Size
+size_said_by number_of (Ok n) = Bytes n
+size_said_by number_of (Err m) = Unsized (number_of m)
+
 abbrev pub size_said : Result ℕ Refusal → Size
-size_said (Ok n) = Bytes n
-size_said (Err m) = Unsized (number m)
+size_said = size_said_by number
 
 -- out with the bytes bs stored one after the other from the place at
 unfoldable pub put : List ℕ → ℕ → List ℕ → List ℕ

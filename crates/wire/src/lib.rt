@@ -1,7 +1,7 @@
 // What readers and writers of the wire format have in common: a part of the bytes, the refusals, and a comparison.
 #![tactic(auto)]
 
-ghost use Rattle.std.specs.Prelude.{◌≡◌, take, drop};
+ghost use Rattle.std.specs.Prelude.{◌≡◌, ℕ, eqb, take, drop};
 ghost use Rattle.wire.specs.Bytes.{same_bytes};
 ghost use Rattle.wire.specs.Refusals.{number};
 
@@ -59,6 +59,41 @@ impl Refusal {
         ensures { result ≡ number self }
     {
         self as u8
+    }
+}
+
+// A refusal by its name, or by any number, be it none of the sixteen.
+pub trait Numbered: Copy {
+    ghost number_of: { Self → ℕ };
+
+    fn of(refusal: Refusal) -> Self
+        ensures { number_of result ≡ number refusal };
+
+    fn is(self, refusal: Refusal) -> bool
+        ensures { result ≡ eqb (number_of self) (number refusal) };
+}
+
+impl Numbered for Refusal {
+    ghost number_of = { number };
+
+    fn of(refusal: Refusal) -> Self {
+        refusal
+    }
+
+    fn is(self, refusal: Refusal) -> bool {
+        self.number() == refusal.number()
+    }
+}
+
+impl Numbered for u8 {
+    ghost number_of = { λ n. n };
+
+    fn of(refusal: Refusal) -> Self {
+        refusal.number()
+    }
+
+    fn is(self, refusal: Refusal) -> bool {
+        self == refusal.number()
     }
 }
 

@@ -5,6 +5,11 @@ use native.Mathlib.Numerals.{add-one}
 use native.Mathlib.Nat.{pow-succ', pow-le-pow_right}
 use Rattle.wire.specs.Bytes.{big_endian_from, big_endian, big_endian_bytes}
 
+no_more : (left : ℕ) (rest : List ℕ) → (0 < left → length rest ≡ 0) → take left rest ≡ []
+no_more zero rest e = refl
+no_more (suc left) [] e = refl
+no_more (suc left) (b ∷ rest) e = let z = e (omega arith) in absurd (omega arith)
+
 -- n is the number of the bytes before the next left ones of rest, where all of N are bs
 pub record NumberSoFar (N : ℕ) (bs : List ℕ) (n left : ℕ) (rest : List ℕ) : Type 0 where
   pub few : left ≤ N
@@ -36,12 +41,30 @@ module _ {N : ℕ} {bs : List ℕ} {n left : ℕ} {rest : List ℕ} (inv : Numbe
   unfolding big_endian_from
   number-end e =
       let b : 256 ^ (N - left) ≤ 256 ^ N = pow-le-pow_right {n = 256} (omega arith) {i = N - left} {j = N} (omega arith) in
-      (rw (none left rest e) at inv.same, omega (arith, inv.below))
-    where
-      none : (left : ℕ) (rest : List ℕ) → (0 < left → length rest ≡ 0) → take left rest ≡ []
-      none zero rest e = refl
-      none (suc left) [] e = refl
-      none (suc left) (b ∷ rest) e = let z = e (omega arith) in absurd (omega arith)
+      (rw (no_more left rest e) at inv.same, omega (arith, inv.below))
+
+-- the same modulo 2^64, for any N
+same-modulo : (x y : ℕ) (bs : List ℕ) → x % 2 ^ 64 ≡ y % 2 ^ 64 → big_endian_from x bs % 2 ^ 64 ≡ big_endian_from y bs % 2 ^ 64
+unfolding big_endian_from
+same-modulo x y [] h = h
+same-modulo x y (b ∷ bs) h = same-modulo (x * 256 + b) (y * 256 + b) bs (omega arith)
+
+pub record ModuloSoFar (bs : List ℕ) (n left : ℕ) (rest : List ℕ) : Type 0 where
+  pub same : big_endian_from n (take left rest) % 2 ^ 64 ≡ big_endian bs % 2 ^ 64
+
+pub modulo-start : (N : ℕ) (s : List ℕ) → ModuloSoFar (take N s) 0 N s
+unfolding big_endian
+modulo-start N s = record { same = refl }
+
+module _ {bs : List ℕ} {n left : ℕ} {rest : List ℕ} (inv : ModuloSoFar bs n left rest) where
+  pub modulo-again : {left' : ℕ} {rest' : List ℕ} (b : ℕ) → rest ≡ b ∷ rest' → left' + 1 ≡ left → ModuloSoFar bs (n * 256 % 2 ^ 64 + b) left' rest'
+  unfolding big_endian_from
+  modulo-again {left' = left'} {rest' = rest'} b e l =
+      record { same = same-modulo (n * 256 % 2 ^ 64 + b) (n * 256 + b) (take left' rest') (omega arith) ∙ rw (e, sym l, add-one) at inv.same }
+
+  pub modulo-end : n < 2 ^ 64 → (0 < left → length rest ≡ 0) → n ≡ big_endian bs % 2 ^ 64
+  unfolding big_endian_from
+  modulo-end small e = let r = rw (no_more left rest e) at inv.same in omega (arith, r, small)
 
 -- the lowest k bytes of n stand last, zeros before them, and rest is what is left of n
 pub record BytesSoFar (n left k rest : ℕ) (bs : List ℕ) : Type 0 where

@@ -2,11 +2,12 @@
 // Lend the very bytes, as `&s[at..at + 4]`: their count is then known where this is compiled, and nothing is tested.
 #![tactic(auto)]
 
-ghost use Rattle.std.specs.Prelude.{◌≡◌, ◌^◌, ◌≤◌, ◌<◌, take};
+ghost use Rattle.std.specs.Prelude.{◌≡◌, ◌%◌, ◌^◌, ◌≤◌, ◌<◌, take};
 ghost use Rattle.wire.specs.Bytes.{big_endian, big_endian_bytes};
 
-// The number of the first N bytes, where N is 8 at most. Where there are fewer, it is that of those.
+// The number of the first N bytes, modulo 2^64, which 8 bytes don't reach. Where there are fewer, it is that of those.
 pub fn big_endian<const N: usize>(s: &[u8]) -> u64
+    ensures modulo { result ≡ big_endian (take N s.now) % 2 ^ 64 }
     ensures number { N ≤ 8 → result ≡ big_endian (take N s.now) }
     ensures fits { N ≤ 8 → result < 256 ^ N }
 {

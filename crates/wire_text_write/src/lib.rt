@@ -2,7 +2,7 @@
 #![tactic(auto)]
 
 ghost use Rattle.std.specs.Prelude.{◌≡◌, [], ◌≤◌, length};
-ghost use Rattle.wire.specs.Output.{said, written, output_after};
+ghost use Rattle.wire.specs.Output.{written_said, written, output_after};
 ghost use Rattle.wire_text_write.specs.Text.{decimal};
 
 use wire::Refusal;
@@ -20,8 +20,8 @@ pub fn decimal_len(n: u64) -> usize
 // n in decimal.
 #[tactic(auto, using(crate::specs::TextLaws::decimals))]
 pub fn write_decimal(out: &mut [u8], at: usize, n: u64) -> Result<usize, Refusal>
-    ensures value { said result ≡ written [] [] out.old at (decimal n) }
-    ensures out_after { out.new ≡ output_after (said result) out.old at (decimal n) }
+    ensures value { written_said result ≡ written [] [] out.old at (decimal n) }
+    ensures out_after { out.new ≡ output_after (written_said result) out.old at (decimal n) }
 {
     let mut digits = [0u8; 20];
     let k = io::decimal(n, &mut digits);

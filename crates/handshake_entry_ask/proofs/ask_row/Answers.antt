@@ -2,7 +2,7 @@
 -- features and theirs.
 use Rattle.std.proofs.Common.{◌-◌, arith, sym, ◌∙◌}
 use Rattle.handshake.specs.Tables.{bytes_at}
-use Rattle.handshake.proofs.TablesLaws.{own_range}
+use Rattle.handshake.proofs.TablesLaws.{parts_inside, own_range}
 use Rattle.handshake_entry_rows.specs.Row.{tables_of}
 use Rattle.handshake_entry_ask.specs.RowLaws.{fails_12, fails_13, fails_4, fails_15, short_row, last_3}
 use Rattle.handshake_entry_ask.proofs.ask_row.Goals as goal
@@ -34,7 +34,10 @@ features_size-requires c =
     let within = sym c.row_inside.ensures ∙ c.if-not-row_inside.false in
     let short = sym c.strings_short.ensures ∙ c.if-not-strings_short.false in
     let s = short_row l c.args.e within short in
-    (omega (arith, s.0, s.1, c.address_len.ensures.1), omega arith, own_range l c.args.e within)
+    record {
+      before_bound = (omega (arith, s.0, s.1, c.address_len.ensures.1), omega arith, own_range l c.args.e within);
+      count_value = (parts_inside l c.args.e within).features;
+    }
 
 pub returns : goal.returns
 returns c =

@@ -32,14 +32,13 @@ unwrap-a-requires c =
     room-ok _ _ _ _ c.write_part.ensures.value
     (rw (c.bytes_at-bytes.ensures, c.address_size.ensures) (simp length-set (omega (arith, length_some c.args.t.buffer.now c.args.e c.args.t.bytes c.requires.e_value.0 c.requires.e_value.1 c.if-e-eq0.false))))
 
-pub unwrap-requires : goal.unwrap-requires
-unwrap-requires c =
+pub put_vlq-requires : goal.put_vlq-requires
+put_vlq-requires c =
     let w = rw (c.bytes_at-bytes.ensures, c.address_size.ensures) at (wrote-ok _ _ _ _ c.write_part.ensures.value c.write_part.ensures.out_after c.unwrap-a.ensures) in
-    room-ok _ _ _ _ c.write_vlq.ensures.value (omega (arith, w.end, simp length-set at (wrote_length w), length_some c.args.t.buffer.now c.args.e c.args.t.bytes c.requires.e_value.0 c.requires.e_value.1 c.if-e-eq0.false))
+    omega (arith, w.end, simp length-set at (wrote_length w), length_some c.args.t.buffer.now c.args.e c.args.t.bytes c.requires.e_value.0 c.requires.e_value.1 c.if-e-eq0.false)
 
 pub returns : goal.returns
 returns c =
     let w = rw (c.bytes_at-bytes.ensures, c.address_size.ensures) at (wrote-ok _ _ _ _ c.write_part.ensures.value c.write_part.ensures.out_after c.unwrap-a.ensures) in
-    let port = wrote-ok _ _ _ _ c.write_vlq.ensures.value c.write_vlq.ensures.out_after c.unwrap.ensures in
     rw (address-some c.args.t.buffer.now c.args.e c.args.t.bytes c.requires.e_value.0 c.requires.e_value.1 c.if-e-eq0.false)
-    (wrote_then (wrote_two c.args.out.now c.args.at 1 c.args.e.addrlen) (wrote_then w port))
+    (wrote_then (wrote_two c.args.out.now c.args.at 1 c.args.e.addrlen) (wrote_then w c.put_vlq.ensures))

@@ -51,7 +51,7 @@ put_features-requires c =
     let b = c.put_address-b.ensures in
     record {
       count_in_bounds = own_range l c.args.e c.requires.ready.inside;
-      count_value = c.requires.ready.ids;
+      count_value = (c.requires.ready.ids, (parts_inside l c.args.e c.requires.ready.inside).features);
       count_in_bounds_2 = simp length-set (omega (arith, whole, a.end, wrote_length a, b.end, wrote_length b));
     }
 

@@ -10,27 +10,26 @@ use Rattle.handshake_entry_write.specs.NumbersLaws.{id-byte}
 use Rattle.handshake_entry_write.proofs.put_feature.Goals as goal
 
 pub overflow_cast-out : goal.overflow_cast-out
-overflow_cast-out c = omega (arith, id-byte c.args.f c.requires.f_value)
+overflow_cast-out c = omega (arith, id-byte c.args.f c.requires.f_value.0)
 
 pub bounds-out-at : goal.bounds-out-at
 bounds-out-at c =
-    let size = length-feature c.args.t.buffer.now c.args.f in
+    let size = length-feature c.args.buffer.now c.args.f in
     omega (arith, size)
 
-pub unwrap-a-requires : goal.unwrap-a-requires
-unwrap-a-requires c =
-    let size = length-feature c.args.t.buffer.now c.args.f in
-    room-ok _ _ _ _ c.write_vlq.ensures.value (rw c.bytes_at-body.ensures (simp length-set (omega (arith, size))))
+pub put_vlq-a-requires : goal.put_vlq-a-requires
+put_vlq-a-requires c =
+    let size = length-feature c.args.buffer.now c.args.f in
+    rw c.part_of-body.ensures (simp length-set (omega (arith, size)))
 
 pub unwrap-requires : goal.unwrap-requires
 unwrap-requires c =
-    let size = length-feature c.args.t.buffer.now c.args.f in
-    let w = rw c.bytes_at-body.ensures at (wrote-ok _ _ _ _ c.write_vlq.ensures.value c.write_vlq.ensures.out_after c.unwrap-a.ensures) in
-    room-ok _ _ _ _ c.write_part.ensures.value (rw c.bytes_at-body.ensures (omega (arith, size, w.end, simp length-set at (wrote_length w))))
+    let size = length-feature c.args.buffer.now c.args.f in
+    let w = rw c.part_of-body.ensures at c.put_vlq-a.ensures in
+    room-ok _ _ _ _ c.write_part.ensures.value (rw c.part_of-body.ensures (omega (arith, size, w.end, simp length-set at (wrote_length w))))
 
 pub returns : goal.returns
 unfolding feature_bytes feature_from_row
 returns c =
-    let size = wrote-ok _ _ _ _ c.write_vlq.ensures.value c.write_vlq.ensures.out_after c.unwrap-a.ensures in
     let body = wrote-ok _ _ _ _ c.write_part.ensures.value c.write_part.ensures.out_after c.unwrap.ensures in
-    wrote_then (wrote_byte c.args.out.now c.args.at c.args.f.id) (wrote_then (rw c.bytes_at-body.ensures at size) (rw c.bytes_at-body.ensures at body))
+    wrote_then (wrote_byte c.args.out.now c.args.at c.args.f.id) (wrote_then (rw c.part_of-body.ensures at c.put_vlq-a.ensures) (rw c.part_of-body.ensures at body))

@@ -5,7 +5,7 @@ use Rattle.std.proofs.lemmas.Result.{err_from_is_err_and}
 use Rattle.wire.proofs.StandingLaws.{after-refused}
 use Rattle.wire_output.proofs.RoomLaws.{room-ok, wrote-ok}
 use Rattle.handshake_entry_rows.specs.Row.{tables_of}
-use Rattle.messages_peers_write.specs.PeersLaws.{body_end, frame_stored}
+use Rattle.messages_peers_write.specs.PeersLaws.{body_end, frame_closed}
 use Rattle.messages_peers_write.proofs.write_peers_frame.Goals as goal
 
 pub returns-in_err-end : goal.returns-in_err-end
@@ -27,5 +27,5 @@ pub returns : goal.returns
 returns c =
     let w = rw (c.vlq_len-before.ensures, c.entry_count-count.ensures) at c.in_ok-end.ensures in
     let v = rw c.entry_count-count.ensures at (wrote-ok _ _ _ _ c.write_vlq.ensures.value c.write_vlq.ensures.out_after c.unwrap.ensures) in
-    let f = frame_stored c.args.network (tables_of c.args.t) c.args.out.now c.args.at w.value w.out_after refl v c.close_frame.ensures.value c.close_frame.ensures.out_after in
+    let f = frame_closed c.args.network (tables_of c.args.t) c.args.out.now c.args.at w.value w.out_after refl v c.close_frame.ensures.value c.close_frame.ensures.out_after in
     record { value = f.0 ∙ w.value; out_after = f.1 }

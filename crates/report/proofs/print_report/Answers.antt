@@ -8,10 +8,10 @@ pub loop-at-init : goal.loop-at-init
 loop-at-init c = print_start c.args.network c.args.cap c.args.s.now
 
 pub loop-at-smaller : goal.loop-at-smaller
-loop-at-smaller c = (print_turn c.args.network c.args.cap c.args.s.now c.put_lines-lines.result _ (length-replicate {A = ℕ} 65536 0) c.put_lines-lines.ensures.value c.in-Some.is c.loop-at.invariant refl).1
+loop-at-smaller c = (print_turn c.args.network c.args.cap c.args.s.now c.put_lines-lines.result _ (length-replicate {A = ℕ} 65536 0) c.put_lines-lines.ensures.value c.in-Continue.is c.loop-at.invariant refl).1
 
 pub loop-at-preserved : goal.loop-at-preserved
-loop-at-preserved c = (print_turn c.args.network c.args.cap c.args.s.now c.put_lines-lines.result _ (length-replicate {A = ℕ} 65536 0) c.put_lines-lines.ensures.value c.in-Some.is c.loop-at.invariant refl).0
+loop-at-preserved c = (print_turn c.args.network c.args.cap c.args.s.now c.put_lines-lines.result _ (length-replicate {A = ℕ} 65536 0) c.put_lines-lines.ensures.value c.in-Continue.is c.loop-at.invariant refl).0
 
 pub returns : goal.returns
-returns c = print_end c.args.network c.args.cap c.args.s.now c.in_default.not-Some c.loop-at.invariant
+returns c = print_end c.args.network c.args.cap c.args.s.now c.in_default.not-Continue c.loop-at.invariant

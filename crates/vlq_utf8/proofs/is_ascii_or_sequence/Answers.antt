@@ -3,5 +3,5 @@ use Rattle.std.proofs.Common.{sym, ◌∙◌}
 use Rattle.vlq_utf8.proofs.AsciiLaws.{ascii-utf8}
 use Rattle.vlq_utf8.proofs.is_ascii_or_sequence.Goals as goal
 
-pub returns-then-is_ascii : goal.returns-then-is_ascii
-returns-then-is_ascii c = c.if-is_ascii.true ∙ sym (ascii-utf8 _ c.if-is_ascii.ensures.cases)
+pub returns-then-is_long_ascii : goal.returns-then-is_long_ascii
+returns-then-is_long_ascii c = c.if-is_long_ascii.true ∙ sym (ascii-utf8 _ (c.is_long_ascii.ensures c.if-is_long_ascii.true))

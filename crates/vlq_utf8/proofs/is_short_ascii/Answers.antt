@@ -1,11 +1,18 @@
--- `vlq_utf8::is_short_ascii` meets its contract: the two blocks of four have no gap between them.
+-- `vlq_utf8::is_short_ascii` meets its contract: the two blocks of four, or of eight, have no gap between them.
 use Rattle.std.proofs.Common.{◌≡◌, ◌+◌, ◌-◌, length, arith, eqb-true}
-use Rattle.vlq_utf8.proofs.AsciiLaws.{ascii_join}
+use Rattle.vlq_utf8.proofs.AsciiLaws.{ascii_joined}
 use Rattle.vlq_utf8.proofs.is_short_ascii.Goals as goal
 
 pub returns-then-n-lt8 : goal.returns-then-n-lt8
 returns-then-n-lt8 c z =
     let none : c.non_ascii-then-n-lt8.result + c.non_ascii-then-n-lt8-2.result ≡ 0 = eqb-true _ _ z in
     let n = length c.args.s.now in
-    ascii_join c.args.s.now 4 (n - 4) (n - (n - 4)) (c.non_ascii-then-n-lt8.ensures.1 (omega arith)) (c.non_ascii-then-n-lt8-2.ensures.1 (omega arith))
+    ascii_joined c.args.s.now 4 (n - 4) (n - (n - 4)) (c.non_ascii-then-n-lt8.ensures.1 (omega arith)) (c.non_ascii-then-n-lt8-2.ensures.1 (omega arith))
+    (omega arith) (omega arith)
+
+pub returns-then-n-le16 : goal.returns-then-n-le16
+returns-then-n-le16 c z =
+    let none : c.non_ascii-then-n-le16.result + c.non_ascii-then-n-le16-2.result ≡ 0 = eqb-true _ _ z in
+    let n = length c.args.s.now in
+    ascii_joined c.args.s.now 8 (n - 8) (n - (n - 8)) (c.non_ascii-then-n-le16.ensures.1 (omega arith)) (c.non_ascii-then-n-le16-2.ensures.1 (omega arith))
     (omega arith) (omega arith)

@@ -1,7 +1,7 @@
 -- `vlq::Cursor::read_string` meets its contract: once the part is read, the test of its bytes decides.
 use Rattle.std.proofs.Common.{sym, ◌∙◌, arith}
 use Rattle.std.proofs.lemmas.Result.{err_from_is_err_and}
-use Rattle.vlq.proofs.ShortStringLaws.{code_part, string-got, string-bad, string-refused}
+use Rattle.vlq.proofs.ShortStringLaws.{code_part, string-read, string-bad, string-refused}
 use Rattle.vlq.proofs.Cursor.read_string.Goals as goal
 
 pub returns-in_err-part : goal.returns-in_err-part
@@ -25,7 +25,7 @@ slice_bounds-is_utf8-end c =
     omega (arith, r.end, r.inside)
 
 pub returns-then-is_utf8 : goal.returns-then-is_utf8
-returns-then-is_utf8 c = string-got _ _ _ c.in_ok-part.ensures (sym c.is_utf8.ensures ∙ c.if-is_utf8.true)
+returns-then-is_utf8 c = string-read _ _ _ c.in_ok-part.ensures (sym c.is_utf8.ensures ∙ c.if-is_utf8.true)
 
 pub returns-else-is_utf8 : goal.returns-else-is_utf8
 returns-else-is_utf8 c = string-bad _ _ _ c.in_ok-part.ensures (sym c.is_utf8.ensures ∙ c.if-is_utf8.false)
