@@ -43,8 +43,8 @@ pub fn is_utf8(s: &[u8]) -> bool
     is_short_ascii(s) || is_ascii_or_sequence(s)
 }
 
-// True only where s has sixteen bytes at most and none is above 0x7F. The slice's own test takes twice as long on so
-// few. By four or eight at a time, if there are as many, the last over the first.
+// True only where s has 32 bytes at most and none is above 0x7F. By four, eight or sixteen at a time, if there are as
+// many, the last over the first. The slice's own test takes up to twice as long on so few.
 fn is_short_ascii(s: &[u8]) -> bool
     ensures { IsTrue result → IsAscii s.now }
 {
@@ -55,12 +55,15 @@ fn is_short_ascii(s: &[u8]) -> bool
     if n < 8 {
         return non_ascii(&s[..4]) + non_ascii(&s[n - 4..]) == 0;
     }
-    n <= 16 && non_ascii(&s[..8]) + non_ascii(&s[n - 8..]) == 0
+    if n <= 16 {
+        return non_ascii(&s[..8]) + non_ascii(&s[n - 8..]) == 0;
+    }
+    n <= 32 && non_ascii(&s[..16]) + non_ascii(&s[n - 16..]) == 0
 }
 
 // How many of the few bytes of s are above 0x7F.
 fn non_ascii(s: &[u8]) -> u8
-    requires { length s.now ≤ 8 }
+    requires { length s.now ≤ 16 }
     ensures { (result ≤ length s.now) × (result ≡ 0 → IsAscii s.now) }
 {
     let mut count = 0;
@@ -78,12 +81,19 @@ fn is_ascii_or_sequence(s: &[u8]) -> bool
     is_long_ascii(s) || is_sequence(s)
 }
 
-// True only where s has more than sixteen bytes and none is above 0x7F. Where one of the first eight is, the slice's own
-// test is not begun.
+// True only where s has more than 32 bytes and none is above 0x7F. Where one of the first or last sixteen is, the
+// slice's own test is not begun. It is quickest on up to 64 bytes, so up to 128 go by their two ends.
 fn is_long_ascii(s: &[u8]) -> bool
     ensures { IsTrue result → IsAscii s.now }
 {
-    16 < s.len() && non_ascii(&s[..8]) == 0 && s.is_ascii()
+    let n = s.len();
+    if n <= 32 || 0 < non_ascii(&s[..16]) + non_ascii(&s[n - 16..]) {
+        return false;
+    }
+    if 64 < n && n <= 128 {
+        return s[..64].is_ascii() && s[n - 64..].is_ascii();
+    }
+    s.is_ascii()
 }
 
 // Is s a sequence of lead bytes with their followers? By places, since a turn takes all bytes of a character: byte by

@@ -41,7 +41,9 @@ pub fn write_vlq(out: &mut [u8], at: usize, value: u64) -> Result<usize, Refusal
     Ok(end)
 }
 
-// A length byte, then the bytes of s, which are UTF-8.
+// A length byte, then the bytes of s, which are UTF-8. Compiled into its callers, since its answer would go through
+// memory.
+#[inline(always)]
 #[tactic(auto, unfolding(wire::specs::Output::asked, wire::specs::Output::written, wire::specs::Output::output_after))]
 pub fn write_short_string(out: &mut [u8], at: usize, s: &[u8]) -> Result<usize, Refusal>
     ensures value { written_said result ≡ written [] (short_string_asked s.now) out.old at (short_string_bytes s.now) }

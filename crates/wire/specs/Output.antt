@@ -19,14 +19,16 @@ abbrev pub written_said_by : {M : Type 0} → (M → ℕ) → Result ℕ M → W
 written_said_by number_of (Ok end) = To end
 written_said_by number_of (Err m) = Refused (number_of m)
 
+-- the same of a writer whose refusals are those of document 01
 abbrev pub written_said : Result ℕ Refusal → Written
 written_said = written_said_by number
 
--- what is said of a value by code
+-- what an answer about the bytes of a value means, its refusals having these numbers
 abbrev pub size_said_by : {M : Type 0} → (M → ℕ) → Result ℕ M → Size
 size_said_by number_of (Ok n) = Bytes n
 size_said_by number_of (Err m) = Unsized (number_of m)
 
+-- the same where its refusals are those of document 01
 abbrev pub size_said : Result ℕ Refusal → Size
 size_said = size_said_by number
 

@@ -32,7 +32,8 @@ pub fn write_byte(out: &mut [u8], at: usize, b: u8) -> Result<usize, Refusal>
 }
 
 // Stores all bytes of s and gives the place after them: up to 128 by their two ends, more by blocks. Where the number
-// of bytes is not known when this is compiled, `copy_from_slice` is a call of C's memmove, which the archive would need.
+// of bytes is not known when this is compiled, `copy_from_slice` is a call of C's memmove, which the archive would
+// need.
 fn put_part(out: &mut [u8], at: usize, s: &[u8]) -> usize
     requires { at + length s.now ≤ length out.old }
     ensures { Wrote out.old at s.now result out.new }

@@ -1,4 +1,5 @@
--- `handshake_entry_write::put_vlq` meets its contract: one byte was stored, or the writer, which has room, was not refused.
+-- `handshake_entry_write::put_vlq` meets its contract: one byte was stored, or the writer, which has room, was not
+-- refused.
 use Rattle.std.proofs.Common.{arith, ap, length}
 use Rattle.wire.proofs.OutputLaws.{wrote_byte}
 use Rattle.wire_output.proofs.RoomLaws.{room-ok, wrote-ok}

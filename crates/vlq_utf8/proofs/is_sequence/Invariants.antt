@@ -1,4 +1,5 @@
--- `vlq_utf8::is_sequence` answers as utf8 does: each turn is some steps of utf8_from (`proofs/Walk.antt`). The measure is the bytes left.
+-- `vlq_utf8::is_sequence` answers as utf8 does: each turn is some steps of utf8_from (`proofs/Walk.antt`). The measure
+-- is the bytes left.
 use Rattle.std.proofs.Common.{◌-◌, length}
 use Rattle.vlq_utf8.specs.Utf8.{utf8}
 use Rattle.vlq_utf8.proofs.Walk.{Stands}

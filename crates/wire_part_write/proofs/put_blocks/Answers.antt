@@ -1,4 +1,5 @@
--- `wire_part_write::put_blocks` meets its contract: each turn stores a block more, and the last 64 bytes go over what is left.
+-- `wire_part_write::put_blocks` meets its contract: each turn stores a block more, and the last 64 bytes go over what
+-- is left.
 use Rattle.std.proofs.Common.{◌≡◌, ℕ, ◌+◌, ◌*◌, ◌≤◌, List, ◌++◌, length, take, drop, arith, add-zero, sym, ap, refl, ◌∙◌, take-add, length-take-le}
 use Rattle.wire.specs.Output.{put, Wrote}
 use Rattle.wire.proofs.OutputLaws.{wrote_none, wrote_then, wrote_length}
